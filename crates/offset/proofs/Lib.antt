@@ -1,8 +1,13 @@
+pub mod BackLemmas
 pub mod CircleLemmas
 pub mod CoverLemmas
 pub mod DiamondLemmas
+pub mod ErosionLemmas
+pub mod LineLemmas
 pub mod OffsetLemmas
+pub mod OppositeLemmas
 pub mod PieceLemmas
+pub mod PointLemmas
 pub mod RawLemmas
 pub mod ShapeLemmas
 pub mod SideLemmas

@@ -1,4 +1,5 @@
--- The raw curve of rings that bound a region winds around the points of the sum of this region and a shape, and around no others.
+-- The raw curve of rings that bound a region winds around the points of the sum of this region and a shape more often than around
+-- the others.
 use Rattle.std.proofs.Common.{◌≡◌, ◌≢◌, ◌⊎◌, inl, inr, ⊎_elim, ℕ, zero, suc, ◌*◌, ℤ, pos, ◌+ℤ◌, ◌-ℤ◌, ◌*ℤ◌, ◌≤ℤ◌, ◌<ℤ◌, ◌&&◌, Bool, true, false, List, [], ◌∷◌, ◌++◌, refl, ap, ap₂, subst, sym, ◌∙◌, arith}
 use Rattle.std.specs.List.{All, Contains, flat_map}
 use Rattle.std.specs.Prelude.{int_le, int_lt}
@@ -18,7 +19,7 @@ use Rattle.overlay.proofs.FillLemmas.Premises.{All-among}
 use Rattle.overlay.proofs.GroupingLemmas.Bags.{Contains-flat_map, Contains-in_flat_map}
 use Rattle.offset.specs.Raw.{GoesThrough, fan, furthest, is_furthest, is_of_fan, moved, moved_edge, raw_edges}
 use Rattle.offset.specs.Shape.{IsConvexAroundOrigin, neighbours, sides, turn}
-use Rattle.offset.specs.Sum.{IsOfSum}
+use Rattle.offset.specs.Sum.{IsOfSumBeyond}
 use Rattle.offset.proofs.CoverLemmas.Cover.{IsCovered, IsKnown, IsRound, LastOfSide, RightOfInner, covered}
 use Rattle.offset.proofs.CoverLemmas.Lines.{generic-off, left-of_band, left-of_triangle, lines, lines_of, lines_of_two}
 use Rattle.offset.proofs.CoverLemmas.Reached.{reached}
@@ -116,7 +117,7 @@ module _ (corners : List Point) (convex : IsConvexAroundOrigin corners) (rings :
   }
 
   -- an edge ends at each end from which the way to a point outside is next
-  last-of : (point : RationalPoint) → winding edges point ≡ pos 0 → LastOfSide edges point
+  last-of : (point : RationalPoint) → winding edges point ≡ bounds.outer → LastOfSide edges point
   last-of point none vertex x y some only ahead ending starting off = ends-last edges bounds point none off vertex some only
 
   -- each of the lines has two ends
@@ -148,8 +149,8 @@ module _ (corners : List Point) (convex : IsConvexAroundOrigin corners) (rings :
               let (side, of_side, inside) = Contains-flat_map (lines_of_two edge) (sides corners) line (k, omega (arith, within), is) in
               of_two edge side among of_side line inside
 
-  -- there are points that the edges wind around near each point of them
-  has-near : HaveNear edges
+  -- there are points inside near each point of them
+  has-near : HaveNear bounds.outer edges
   has-near edge base k among of =
       let (point, one, close) = close-once edges bounds edge base among of k in (
         point,
@@ -164,20 +165,20 @@ module _ (corners : List Point) (convex : IsConvexAroundOrigin corners) (rings :
 
   module _ (point : RationalPoint) where
     -- around a point of a band or a triangle the raw curve winds
-    covered-winds : pos 0 ≤ℤ winding edges point → IsCovered (sides corners) (neighbours (sides corners)) edges joints point → pos 0 <ℤ winding (raw_edges corners rings) point
+    covered-winds : bounds.outer ≤ℤ winding edges point → IsCovered (sides corners) (neighbours (sides corners)) edges joints point → bounds.outer <ℤ winding (raw_edges corners rings) point
     covered-winds natural (inl is) =
         let (ring, among, inside) = Contains-flat_map ring_edges rings is.edge is.among in
         let (next, pair) = next-held (ring_edges ring) is.edge inside in
         let left = left-of_band edges (neighbours (sides corners)) point is in
         let corner = furthest-is corners convex is.edge (is.one, is.corner) is.furthest.pair (furthest-tells is.edge (is.one, is.corner) is.furthest.before is.furthest.after) in
-        raw-of_band corners convex rings bounds.two_ends point is.edge next (ring, among, pair) natural
+        raw-of_band corners convex rings bounds.two_ends point bounds.outer is.edge next (ring, among, pair) natural
         left.behind
         (subst (λ (c : Point). pos 0 <ℤ left_by (edge_between (start_of is.edge) (moved c (start_of is.edge))) point) corner left.from)
         (subst (λ (c : Point). pos 0 <ℤ left_by (moved_edge c is.edge) point) corner left.before)
         (subst (λ (c : Point). pos 0 <ℤ left_by (edge_between (moved c (end_of is.edge)) (end_of is.edge)) point) corner left.upto)
     covered-winds natural (inr is) =
         let left = left-of_triangle (sides corners) joints point is in
-        raw-of_part corners convex rings bounds.two_ends point is.edge is.next is.side (follows-of is.edge is.next is.joint) is.left
+        raw-of_part corners convex rings bounds.two_ends point bounds.outer is.edge is.next is.side (follows-of is.edge is.next is.joint) is.left
         (Contains-filter (is_of_fan is.edge is.next) (sides corners) is.side (of_fan (turn is.edge is.side) (turn is.next is.side) is.from is.upto) is.of)
         natural left.from left.before left.upto
       where
@@ -185,13 +186,13 @@ module _ (corners : List Point) (convex : IsConvexAroundOrigin corners) (rings :
         of_fan a b from upto = and_from (int_le (pos 0) a) (int_lt b (pos 0)) (passes-le (pos 0) a from) (passes-lt b (pos 0) upto)
 
     -- around a point of the sum that is off the lines it does
-    winds-generic : All (λ line. left_by line point ≢ pos 0) (lines (sides corners) edges) → IsOfSum edges corners point → winding (raw_edges corners rings) point ≢ pos 0
+    winds-generic : All (λ line. left_by line point ≢ pos 0) (lines (sides corners) edges) → IsOfSumBeyond bounds.outer edges corners point → winding (raw_edges corners rings) point ≢ bounds.outer
     winds-generic off sum = ⊎_elim around-region beside-region (bounds.once point)
       where
-        beside-region : winding edges point ≡ pos 1 → winding (raw_edges corners rings) point ≢ pos 0
+        beside-region : winding edges point ≡ (bounds.outer +ℤ pos 1) → winding (raw_edges corners rings) point ≢ bounds.outer
         beside-region one none = let natural = raw-natural corners convex rings bounds.two_ends point in omega (arith, ints, one, none, natural)
 
-        around-region : winding edges point ≡ pos 0 → winding (raw_edges corners rings) point ≢ pos 0
+        around-region : winding edges point ≡ bounds.outer → winding (raw_edges corners rings) point ≢ bounds.outer
         around-region none nothing =
             let crossed = crossed-between edges bounds.closed sum.from point (λ same. sum.inside (same ∙ none)) in
             let is_reached = reached (sides corners) around sum.from sum.by point crossed.point crossed.a crossed.m (record { x = sum.x; y = sum.y })
@@ -205,24 +206,24 @@ module _ (corners : List Point) (convex : IsConvexAroundOrigin corners) (rings :
               none_back = goes-on edges bounds.noded bounds.distinct bounds.two_ends;
             } in
             let found = covered (sides corners) (neighbours (sides corners)) edges joints point known right crossed.edge crossed.point crossed.among crossed.of is_reached in
-            let winds = covered-winds (let zero = none in omega (arith, ints, zero)) found in
+            let winds = covered-winds (let same = none in omega (arith, ints, same)) found in
             omega (arith, ints, winds, nothing)
 
-  -- The raw curve winds around each point of the sum.
-  pub not-too-little : (point : RationalPoint) → IsOfSum edges corners point → winding (raw_edges corners rings) point ≢ pos 0
-  not-too-little point sum = from-generic edges (raw_edges corners rings) (lines (sides corners) edges) corners lines-proper winds-generic point sum
+  -- The raw curve winds around each point of the sum unlike around those outside.
+  pub not-too-little : (point : RationalPoint) → IsOfSumBeyond bounds.outer edges corners point → winding (raw_edges corners rings) point ≢ bounds.outer
+  not-too-little point sum = from-generic bounds.outer edges (raw_edges corners rings) (lines (sides corners) edges) corners lines-proper winds-generic point sum
 
-  -- Around a point that isn't of it, it winds where this is of the sum, and else not at all.
+  -- Around a point that isn't of it, it winds more often than around those outside where this is of the sum, and else just so often.
   pub winds-sum : (point : RationalPoint) → All (λ edge. ¬ (GoesThrough edge point)) (raw_edges corners rings)
-      → (IsOfSum edges corners point × (pos 0 <ℤ winding (raw_edges corners rings) point)) ⊎ ((¬ (IsOfSum edges corners point)) × (winding (raw_edges corners rings) point ≡ pos 0))
+      → (IsOfSumBeyond bounds.outer edges corners point × (bounds.outer <ℤ winding (raw_edges corners rings) point)) ⊎ ((¬ (IsOfSumBeyond bounds.outer edges corners point)) × (winding (raw_edges corners rings) point ≡ bounds.outer))
   winds-sum point off =
-      by_lt_z (pos 0) (winding (raw_edges corners rings) point)
-      (λ above. inl (not-too-much corners convex rings bounds.two_ends has-near point off (λ none. omega (arith, ints, above, none)), above))
+      by_lt_z bounds.outer (winding (raw_edges corners rings) point)
+      (λ above. inl (not-too-much corners convex bounds.outer rings bounds.two_ends has-near point off (λ none. omega (arith, ints, above, none)), above))
       (λ upto.
       let natural = raw-natural corners convex rings bounds.two_ends point in
       let none = never (winding edges point) (winding (raw_edges corners rings) point) (bounds.once point) natural upto in
       inr ((λ sum. not-too-little point sum none), none))
     where
-      never : (e r : ℤ) → (e ≡ pos 0) ⊎ (e ≡ pos 1) → e ≤ℤ r → r ≤ℤ pos 0 → r ≡ pos 0
+      never : (e r : ℤ) → (e ≡ bounds.outer) ⊎ (e ≡ (bounds.outer +ℤ pos 1)) → e ≤ℤ r → r ≤ℤ bounds.outer → r ≡ bounds.outer
       never e r (inl none) from upto = omega (arith, ints, none, from, upto)
       never e r (inr one) from upto = absurd (omega (arith, ints, one, from, upto))

@@ -2,7 +2,6 @@
 pub mod Bands
 pub mod Closed
 pub mod Convex
-pub mod Near
 pub mod Parts
 pub mod Rounds
 pub mod Shifts

@@ -90,6 +90,23 @@ kept-same make test xs index d before so_far inside isnt so =
     ∙ ap (λ (edges : List Edge). before ++ edges)
     (sym (ap (map make) (filter_more test xs index d inside ∙ ap (λ (t : Bool). filter test (take index xs) ++ cond t (get_or xs index d ∷ []) []) isnt ∙ append-nil (filter test (take index xs)))))
 
+-- Four edges, pushed one after another.
+pub four-more : (before first second third fourth : List Edge) (a b c d : Edge) → first ≡ (before ++ a ∷ []) → second ≡ (first ++ b ∷ []) → third ≡ (second ++ c ∷ []) → fourth ≡ (third ++ d ∷ []) → fourth ≡ (before ++ (a ∷ b ∷ c ∷ d ∷ []))
+four-more before first second third fourth a b c d one two three four =
+    four
+    ∙ ap (λ (edges : List Edge). edges ++ d ∷ []) (three ∙ ap (λ (edges : List Edge). edges ++ c ∷ []) (two ∙ ap (λ (edges : List Edge). edges ++ b ∷ []) one))
+    ∙ append_assoc ((before ++ a ∷ []) ++ b ∷ []) (c ∷ []) (d ∷ [])
+    ∙ append_assoc (before ++ a ∷ []) (b ∷ []) (c ∷ d ∷ [])
+    ∙ append_assoc before (a ∷ []) (b ∷ c ∷ d ∷ [])
+
+-- The edge of one more item.
+pub mapped-more : {X : Type 0} (make : X → Edge) (xs : List X) (index : ℕ) (d : X) (before so_far : List Edge) → index < length xs → so_far ≡ (before ++ map make (take index xs))
+    → (so_far ++ make (get_or xs index d) ∷ []) ≡ (before ++ map make (take (index + 1) xs))
+mapped-more make xs index d before so_far inside so =
+    ap (λ (edges : List Edge). edges ++ make (get_or xs index d) ∷ []) so
+    ∙ append_assoc before (map make (take index xs)) (make (get_or xs index d) ∷ [])
+    ∙ ap (λ (edges : List Edge). before ++ edges) (sym (ap (map make) (take_more xs index d inside) ∙ map-append make (take index xs) (get_or xs index d ∷ [])))
+
 -- The list of one more item.
 pub made-more : {X : Type 0} (make : X → List Edge) (xs : List X) (index : ℕ) (d : X) (before so_far : List Edge) → index < length xs → so_far ≡ (before ++ flat_map make (take index xs))
     → (so_far ++ make (get_or xs index d)) ≡ (before ++ flat_map make (take (index + 1) xs))
@@ -99,6 +116,17 @@ made-more make xs index d before so_far inside so =
     ∙ ap (λ (edges : List Edge). before ++ edges)
     (sym (ap (flat_map make) (take_more xs index d inside) ∙ flat_map-append make (take index xs) (get_or xs index d ∷ [])
     ∙ ap (λ (edges : List Edge). flat_map make (take index xs) ++ edges) (flat_map-cons make (get_or xs index d) [] ∙ append-nil (make (get_or xs index d)))))
+
+-- Lists that are made of each item's image are made of each item.
+pub made-of_map : {X Y : Type 0} (make : Y → List Edge) (f : X → Y) (xs : List X) → flat_map make (map f xs) ≡ flat_map (λ x. make (f x)) xs
+made-of_map make f [] = refl
+made-of_map make f (x ∷ xs) = flat_map-cons make (f x) (map f xs) ∙ ap (λ (edges : List Edge). make (f x) ++ edges) (made-of_map make f xs) ∙ sym (flat_map-cons (λ y. make (f y)) x xs)
+
+-- One of the edges that are made of each item.
+pub mapped-fails : {X : Type 0} (make : X → Edge) (xs : List X) (index : ℕ) (d : X) (fault : MinkowskiFault) → index < length xs → IsRawFault (make (get_or xs index d) ∷ []) fault → IsRawFault (map make xs) fault
+mapped-fails make [] index d fault inside fails = absurd (omega (arith, inside))
+mapped-fails make (x ∷ xs) zero d fault inside fails = earlier-fails (make x ∷ []) (map make xs) fault fails
+mapped-fails make (x ∷ xs) (suc index) d fault inside fails = later-fails (make x ∷ []) (map make xs) fault (mapped-fails make xs index d fault (omega (arith, inside)) fails)
 
 -- One edge with an end that is no point of 32 bits.
 pub starts-outside : (edge : Edge) (fault : MinkowskiFault) → (fault ≡ Range) × (¬ (IsPointIn32Bits (start_of edge))) → IsRawFault (edge ∷ []) fault

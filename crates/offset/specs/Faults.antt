@@ -1,7 +1,8 @@
 -- Why there is no Minkowski sum.
 use Rattle.std.specs.Prelude.{ℕ, ⊤, List, All, codes}
 use Rattle.plane.specs.declared.edge.Edge.{Edge}
-use Rattle.offset.specs.Raw.{IsIn32Bits}
+use Rattle.plane.specs.declared.point.Point.{Point}
+use Rattle.offset.specs.Raw.{IsIn32Bits, IsPointIn32Bits}
 use Rattle.offset.specs.declared.fault.MinkowskiFault.{MinkowskiFault}
 use Rattle.offset.specs.declared.fault.MinkowskiFault.TheVariants.{Lengths, Shape, Range, OutOfMemory}
 
@@ -11,6 +12,13 @@ IsRawFault raw Lengths = ⊥
 IsRawFault raw Shape = ⊥
 IsRawFault raw Range = ¬ (All IsIn32Bits raw)
 IsRawFault raw OutOfMemory = ⊤
+
+-- Why these points weren't made: not all of them are points of 32 bits, or memory was refused.
+abbrev pub IsPointFault : List Point → MinkowskiFault → Type 0
+IsPointFault points Lengths = ⊥
+IsPointFault points Shape = ⊥
+IsPointFault points Range = ¬ (All IsPointIn32Bits points)
+IsPointFault points OutOfMemory = ⊤
 
 -- what a fault prints
 abbrev pub fault_text : MinkowskiFault → List ℕ

@@ -2,6 +2,7 @@
 pub mod Circle
 pub mod CircleFaults
 pub mod Faults
+pub mod Lines
 pub mod Minkowski
 pub mod Raw
 pub mod Shape

@@ -1,4 +1,4 @@
--- What a Minkowski sum of edges and a shape is: polygons around the points of it.
+-- What a Minkowski sum of edges and a shape is, and what an erosion: polygons around the points of it.
 use Rattle.std.specs.List.{flat_map}
 use Rattle.std.specs.Prelude.{◌≡◌, ◌⊎◌, ◌≤◌, [], ⊤, List, All, length, pos}
 use Rattle.plane.specs.declared.edge.Edge.{Edge}
@@ -7,43 +7,52 @@ use Rattle.plane.specs.Meet.Edges.{RationalPoint}
 use Rattle.noding.specs.Local.{IsExactAt}
 use Rattle.noding.specs.Windings.{winding}
 use Rattle.overlay.specs.declared.fill.rules.FillRule.{FillRule}
-use Rattle.overlay.specs.declared.fill.rules.FillRule.TheVariants.{NonZero}
+use Rattle.overlay.specs.declared.fill.rules.FillRule.TheVariants.{Negative, NonZero}
 use Rattle.overlay.specs.declared.fill.rules.Operation.TheVariants.{Union}
 use Rattle.overlay.specs.Boundary.{IsBoundary, WindsAsBroken, result_at}
 use Rattle.overlay.specs.Contours.Rings.{IsRing, real_edges, ring_edges}
 use Rattle.overlay.specs.Overlay.{polygon_edges}
 use Rattle.overlay.specs.Polygons.{HasSignedArea, IsPolygon, rings_of}
-use Rattle.offset.specs.Raw.{GoesThrough, IsIn32Bits, raw_edges}
-use Rattle.offset.specs.Sum.{IsOfSum}
+use Rattle.offset.specs.Raw.{GoesThrough, IsIn32Bits, IsPointIn32Bits, raw_edges, raw_inside}
+use Rattle.offset.specs.Shape.{opposite_shape}
+use Rattle.offset.specs.Sum.{IsOfErosion, IsOfSum}
 use Rattle.offset.specs.declared.fault.MinkowskiFault.{MinkowskiFault}
 use Rattle.offset.specs.declared.fault.MinkowskiFault.TheVariants.{Lengths, Shape, Range, OutOfMemory}
 
--- Polygons around what closed edges wind around. Their rings visit no point twice, and have three points at least; outer ones run
--- counterclockwise, with an area above 0, and holes clockwise, with one below 0. At every point they wind once where the pieces
--- wind that the edges are broken into, and else not at all: so as the edges do, if each edge isn't moved among all, or runs along
--- an axis, or isn't near the point.
-pub record IsWound (edges : List Edge) (polygons : List (List (List Point))) : Type 0 where
+-- Polygons around what is inside of closed edges, by the rule. Their rings visit no point twice, and have three points at least; outer ones run
+-- counterclockwise, with an area above 0, and holes clockwise, with one below 0. At every point they wind once where it is inside
+-- of the pieces that the edges are broken into, and else not at all: so as with the edges, if each edge isn't moved among all, or
+-- runs along an axis, or isn't near the point.
+pub record IsWound (rule : FillRule) (edges : List Edge) (polygons : List (List (List Point))) : Type 0 where
   pub each : All IsRing (rings_of polygons)
   pub three_points : All (λ ring. 3 ≤ length ring) (rings_of polygons)
   pub directed : All IsPolygon polygons
   pub areas : All HasSignedArea (rings_of polygons)
-  pub everywhere : WindsAsBroken NonZero Union edges [] (polygon_edges polygons)
+  pub everywhere : WindsAsBroken rule Union edges [] (polygon_edges polygons)
   pub once : (point : RationalPoint) → (winding (polygon_edges polygons) point ≡ pos 0) ⊎ (winding (polygon_edges polygons) point ≡ pos 1)
-  pub exact : (point : RationalPoint) → All (IsExactAt edges point) edges → winding (polygon_edges polygons) point ≡ result_at NonZero Union edges [] point
+  pub exact : (point : RationalPoint) → All (IsExactAt edges point) edges → winding (polygon_edges polygons) point ≡ result_at rule Union edges [] point
 
--- Polygons around the points of the sum of what the edges wind around and the shape. Their rings visit no point twice, and have
--- three points at least; outer ones run counterclockwise, with an area above 0, and holes clockwise, with one below 0. They wind
--- once around a point or not at all: once around each point of the sum, and not at all around any other, if each edge of the raw
--- curve isn't moved among all of it, or runs along an axis, or isn't near the point, and none goes through it.
-pub record IsMinkowski (corners : List Point) (edges raw : List Edge) (polygons : List (List (List Point))) : Type 0 where
+-- Polygons around the points of a region. Their rings visit no point twice, and have three points at least; outer ones run
+-- counterclockwise, with an area above 0, and holes clockwise, with one below 0. They wind once around a point or not at all: once
+-- around each point of the region, and not at all around any other, if each edge of the raw curve isn't moved among all of it, or
+-- runs along an axis, or isn't near the point, and none goes through it.
+pub record IsAround (region : RationalPoint → Type 0) (raw : List Edge) (polygons : List (List (List Point))) : Type 0 where
   pub each : All IsRing (rings_of polygons)
   pub three_points : All (λ ring. 3 ≤ length ring) (rings_of polygons)
   pub directed : All IsPolygon polygons
   pub areas : All HasSignedArea (rings_of polygons)
   pub once : (point : RationalPoint) → (winding (polygon_edges polygons) point ≡ pos 0) ⊎ (winding (polygon_edges polygons) point ≡ pos 1)
   pub exact : (point : RationalPoint) → All (λ edge. ¬ (GoesThrough edge point)) raw → All (IsExactAt raw point) raw
-      → (IsOfSum edges corners point × (winding (polygon_edges polygons) point ≡ pos 1))
-      ⊎ ((¬ (IsOfSum edges corners point)) × (winding (polygon_edges polygons) point ≡ pos 0))
+      → (region point × (winding (polygon_edges polygons) point ≡ pos 1))
+      ⊎ ((¬ (region point)) × (winding (polygon_edges polygons) point ≡ pos 0))
+
+-- The region is the sum of what the edges wind around and the shape.
+abbrev pub IsMinkowski : List Point → List Edge → List Edge → List (List (List Point)) → Type 0
+IsMinkowski corners edges raw polygons = IsAround (λ point. IsOfSum edges corners point) raw polygons
+
+-- It is what the edges wind around from where the shape lies inside.
+abbrev pub IsErosion : List Point → List Edge → List Edge → List (List (List Point)) → Type 0
+IsErosion corners edges raw polygons = IsAround (λ point. IsOfErosion edges corners point) raw polygons
 
 -- The polygons are what the inside of edges, by the rule, becomes when it grows by the shape.
 pub record IsGrown (rule : FillRule) (edges : List Edge) (corners : List Point) (polygons : List (List (List Point))) : Type 0 where
@@ -53,8 +62,19 @@ pub record IsGrown (rule : FillRule) (edges : List Edge) (corners : List Point) 
   -- they wind around the points of it, if each edge isn't moved among all, or runs along an axis, or isn't near the point
   pub inside : (point : RationalPoint) → All (IsExactAt edges point) edges → winding (flat_map ring_edges rings) point ≡ result_at rule Union edges [] point
   -- the polygons are around what the raw curve of these rings winds around, and that is their sum with the shape
-  pub wound : IsWound (raw_edges corners rings) polygons
+  pub wound : IsWound NonZero (raw_edges corners rings) polygons
   pub sum : IsMinkowski corners (flat_map ring_edges rings) (raw_edges corners rings) polygons
+
+-- The polygons are what the inside of edges, by the rule, becomes when the shape is taken along outside.
+pub record IsShrunk (rule : FillRule) (edges : List Edge) (corners : List Point) (polygons : List (List (List Point))) : Type 0 where
+  -- rings that bound the inside
+  pub rings : List (List Point)
+  pub bounds : IsBoundary rule Union (real_edges edges) [] rings
+  -- they wind around the points of it, if each edge isn't moved among all, or runs along an axis, or isn't near the point
+  pub inside : (point : RationalPoint) → All (IsExactAt edges point) edges → winding (flat_map ring_edges rings) point ≡ result_at rule Union edges [] point
+  -- the polygons are around what the raw curve within these rings winds around below 0, and from there the shape lies inside
+  pub wound : IsWound Negative (raw_inside corners rings) polygons
+  pub erosion : IsErosion corners (flat_map ring_edges rings) (raw_inside corners rings) polygons
 
 -- Why the raw curve wasn't made: a corner of it is no point of 32 bits, or memory was refused.
 abbrev pub IsSumFault : FillRule → List Edge → List Point → MinkowskiFault → Type 0
@@ -62,3 +82,11 @@ IsSumFault rule edges corners Lengths = ⊥
 IsSumFault rule edges corners Shape = ⊥
 IsSumFault rule edges corners Range = (rings : List (List Point)) × IsBoundary rule Union (real_edges edges) [] rings × (¬ (All IsIn32Bits (raw_edges corners rings)))
 IsSumFault rule edges corners OutOfMemory = ⊤
+
+-- Why the raw curve within wasn't made: a corner of it, or of the shape turned by half a turn, is no point of 32 bits, or memory was
+-- refused.
+abbrev pub IsErosionFault : FillRule → List Edge → List Point → MinkowskiFault → Type 0
+IsErosionFault rule edges corners Lengths = ⊥
+IsErosionFault rule edges corners Shape = ⊥
+IsErosionFault rule edges corners Range = (¬ (All IsPointIn32Bits (opposite_shape corners))) ⊎ ((rings : List (List Point)) × IsBoundary rule Union (real_edges edges) [] rings × (¬ (All IsIn32Bits (raw_inside corners rings))))
+IsErosionFault rule edges corners OutOfMemory = ⊤

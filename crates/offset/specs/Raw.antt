@@ -1,14 +1,14 @@
 -- The raw curve around the sum of rings and a shape: each edge moved by the shape's corner that lies furthest to the right of it,
 -- and what joins these at the ends of edges.
 use Rattle.std.specs.List.{flat_map}
-use Rattle.std.specs.Prelude.{Bool, cond, ◌&&◌, pos, ◌+ℤ◌, ◌-ℤ◌, ◌≤ℤ◌, ◌<ℤ◌, ◌^◌, int_le, int_lt, List, [], ◌∷◌, filter, get_or, map}
+use Rattle.std.specs.Prelude.{ℕ, ◌-◌, nat_eq, Bool, cond, ◌&&◌, ℤ, pos, ◌+ℤ◌, ◌-ℤ◌, ◌≤ℤ◌, ◌<ℤ◌, ◌^◌, int_le, int_lt, List, [], ◌∷◌, filter, get_or, map, reverse}
 use Rattle.plane.specs.declared.edge.Edge.{Edge}
 use Rattle.plane.specs.declared.point.Point.{Point}
 use Rattle.plane.specs.Ends.{edge_between, end_of, start_of}
 use Rattle.plane.specs.Meet.Edges.{IsOf, RationalPoint}
 use Rattle.plane.specs.Meet.Kinds.{AreSame}
 use Rattle.overlay.specs.Contours.Rings.{has_two_ends, ring_edges}
-use Rattle.offset.specs.Shape.{neighbours, sides, turn}
+use Rattle.offset.specs.Shape.{neighbours, opposite_shape, sides, turn}
 
 -- The point moved by another one, and the edge.
 abbrev pub moved : Point → Point → Point
@@ -69,6 +69,20 @@ raw_of_ring corners ring = flat_map (raw_of_two corners) (neighbours (ring_edges
 -- That of rings, one ring after another.
 abbrev pub raw_edges : List Point → List (List Point) → List Edge
 raw_edges corners rings = flat_map (raw_of_ring corners) rings
+
+-- The ring the other way round, from the same point on.
+abbrev pub backwards : List Point → List Point
+backwards [] = []
+backwards (first ∷ others) = first ∷ reverse others
+
+-- Where the item of this place stands in it, of so many.
+abbrev pub place_back : ℕ → ℕ → ℕ
+place_back index count = cond (nat_eq index 0) 0 (count - index)
+
+-- The raw curve around what is left of rings where the shape is taken along outside of them: that of the rings the other way round,
+-- with the shape turned by half a turn.
+abbrev pub raw_inside : List Point → List (List Point) → List Edge
+raw_inside corners rings = raw_edges (opposite_shape corners) (map backwards rings)
 
 -- The edge goes through the point, or ends there.
 abbrev pub GoesThrough : Edge → RationalPoint → Type 0

@@ -1,6 +1,6 @@
 -- Shapes: convex polygons of whole points around the origin.
 use Rattle.std.specs.List.{zip}
-use Rattle.std.specs.Prelude.{ℕ, ◌+◌, cond, nat_eq, ℤ, pos, ◌-ℤ◌, ◌*ℤ◌, ◌≤ℤ◌, ◌<ℤ◌, List, [], ◌∷◌, ◌++◌, All}
+use Rattle.std.specs.Prelude.{ℕ, ◌+◌, cond, nat_eq, ℤ, pos, ◌-ℤ◌, ◌*ℤ◌, ◌≤ℤ◌, ◌<ℤ◌, List, [], ◌∷◌, ◌++◌, All, map}
 use Rattle.plane.specs.declared.edge.Edge.{Edge}
 use Rattle.plane.specs.declared.point.Point.{Point}
 use Rattle.plane.specs.Lines.{height_over}
@@ -36,6 +36,14 @@ pub record IsConvexAroundOrigin (corners : List Point) : Type 0 where
   pub turns : All (λ two. pos 0 <ℤ turn two.0 two.1) (neighbours (sides corners))
   -- no corner lies right of a side
   pub convex : All (λ side. All (λ corner. pos 0 ≤ℤ height_over side corner) corners) (sides corners)
+
+-- The point on the other side of the origin, as far from it.
+abbrev pub opposite : Point → Point
+opposite point = record { x = pos 0 -ℤ point.x; y = pos 0 -ℤ point.y }
+
+-- The shape turned by half a turn.
+abbrev pub opposite_shape : List Point → List Point
+opposite_shape corners = map opposite corners
 
 -- The point lies left of the side, or on its line.
 abbrev pub IsLeftOf : Edge → RationalPoint → Type 0

@@ -109,8 +109,8 @@ fn differ(one: Point, other: Point) -> bool
     one.x != other.x || one.y != other.y
 }
 
-// The corner that lies furthest to the right of the edge, the first of two.
-fn furthest(corners: &[Point], edge: Edge) -> Point
+/// The corner that lies furthest to the right of the edge, the first of two.
+pub fn furthest(corners: &[Point], edge: Edge) -> Point
     ensures { result ≡ furthest corners.now edge }
 {
     for index in 0..corners.len() {
@@ -136,8 +136,8 @@ fn is_of_fan(edge: Edge, next: Edge, side: Edge) -> bool
     0 <= turn(edge, side) && turn(next, side) < 0
 }
 
-// Pushes the edge, moved.
-fn push_moved<A: Allocator>(
+/// Pushes the edge, moved.
+pub fn push_moved<A: Allocator>(
     by: Point,
     edge: Edge,
     edges: &mut Vec<Edge, A>,

@@ -3,6 +3,7 @@
 ghost use Rattle.std.specs.Prelude.{◌≡◌, ◌↔◌, [], List, All, Err, IfErr, IfOk, OnErr, OnOk, length};
 ghost use Rattle.std.specs.List.{flat_map};
 ghost use Rattle.plane.specs.declared.point.Point.{Point};
+ghost use Rattle.noding.specs.Offsets.{AreJoined};
 ghost use Rattle.noding.specs.Windings.{IsClosed};
 ghost use Rattle.overlay.specs.Boundary.{IsBoundary};
 ghost use Rattle.overlay.specs.Contours.Rings.{ring_edges};
@@ -93,7 +94,7 @@ fn append_sum<A: Allocator + Copy>(
     let alloc = *out.points.allocator();
     let mut status = GrowingStatus::new(alloc)?;
     let raw = raw_around(alloc, polygons, rule, shape, &mut status)?;
-    append_wound(&raw, &mut status, out)?;
+    append_wound(&raw, FillRule::NonZero, &mut status, out)?;
     Ok(())
 }
 
@@ -116,6 +117,26 @@ where
     ensures fault { IfErr result (IsSumFault rule (edges_of polygons.entry) shape.now) }
     ensures empty { OnOk result (C.stored status.new ≡ []) }
 {
+    let (points, ends) = bounding_rings(alloc, polygons, rule, status)?;
+    raw_of_rings(alloc, shape, &points, &ends)
+}
+
+/// Rings that bound the inside of the polygons, by the rule: their points, and where each stops among these.
+pub fn bounding_rings<C, A>(
+    alloc: A,
+    polygons: Rings,
+    rule: FillRule,
+    status: &mut C,
+) -> Result<(Vec<Point, A>, Vec<usize, A>), Refusal>
+where
+    C: StatusCollection<ActiveEdge, i64, ()>,
+    A: Allocator + Copy,
+    requires { HasEnds polygons }
+    ensures ok { IfOk result (λ made. (rings : List (List Point))
+        × IsBoundary rule Union (real_edges (edges_of polygons.entry)) [] rings
+        × AreJoined rings made.0.items made.1.items) }
+    ensures empty { OnOk result (C.stored status.new ≡ []) }
+{
     let nothing = Rings {
         points: &[],
         ends: &[],
@@ -128,7 +149,7 @@ where
     let mut points = Vec::new(alloc);
     let mut ends = Vec::new(alloc);
     boundary(&edges, count, choice, status, &mut points, &mut ends)?;
-    raw_of_rings(alloc, shape, &points, &ends)
+    Ok((points, ends))
 }
 
 // That of the rings that stop at these ends.
@@ -149,18 +170,23 @@ fn raw_of_rings<A: Allocator>(
     Ok(raw)
 }
 
-// Appends the polygons of what closed edges wind around. Where it is refused, it may have appended something.
-fn append_wound<C, A>(edges: &[Edge], status: &mut C, out: &mut Polygons<A>) -> Result<(), Refusal>
+/// Appends the polygons of what is inside of closed edges, by the rule. Where it is refused, it may have appended something.
+pub fn append_wound<C, A>(
+    edges: &[Edge],
+    rule: FillRule,
+    status: &mut C,
+    out: &mut Polygons<A>,
+) -> Result<(), Refusal>
 where
     C: StatusCollection<ActiveEdge, i64, ()>,
     A: Allocator + Copy,
     requires { IsClosed edges.now }
     ensures ok { OnOk result ((polygons : List (List (List Point)))
-        × IsWound edges.now polygons × Appends polygons out.old out.new) }
+        × IsWound rule edges.now polygons × Appends polygons out.old out.new) }
     ensures err { OnErr result (AreExtended out.old out.new) }
 {
     let choice = Choice {
-        rule: FillRule::NonZero,
+        rule,
         operation: Operation::Union,
     };
     let alloc = *out.points.allocator();

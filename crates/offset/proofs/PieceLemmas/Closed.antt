@@ -20,8 +20,8 @@ use Rattle.offset.proofs.PieceLemmas.Convex.{fan-gains}
 use Rattle.offset.proofs.PieceLemmas.Parts.{moved-exchanged, one-corner, total-flat, total-map}
 use Rattle.offset.proofs.PieceLemmas.Rounds.{IsJoined, neighbours-held, ring-joined, total-firsts, total-seconds}
 
--- how many pass a test, as a sum
-counted : {X : Type 0} (test : X → Bool) (xs : List X) → pos (count_by test xs) ≡ total (λ x. count (test x)) xs
+-- How many pass a test, as a sum.
+pub counted : {X : Type 0} (test : X → Bool) (xs : List X) → pos (count_by test xs) ≡ total (λ x. count (test x)) xs
 counted test [] = refl
 counted test (x ∷ xs) = by (test x) (count_by test (x ∷ xs)) (count_by test xs) (total (λ y. count (test y)) xs) (sum_by-cons (λ y. cond (test y) 1 0) x xs) (counted test xs)
   where

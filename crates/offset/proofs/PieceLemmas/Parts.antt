@@ -122,7 +122,7 @@ module _ (corners : List Point) (convex : IsConvexAroundOrigin corners) where
 
   module _ (point : RationalPoint) where
     -- what the way from a point to it and a corner counts
-    abbrev spoke : Point → Point → ℤ
+    abbrev pub spoke : Point → Point → ℤ
     spoke at corner = passed_by (edge_between at (moved at corner)) point
 
     -- What the parts of the fan wind between an edge and the next one, if they turn left.
@@ -142,7 +142,8 @@ module _ (corners : List Point) (convex : IsConvexAroundOrigin corners) where
         let start = ap (λ (at : Point). passed_by (edge_between (start_of edge) at) point) (moved-exchanged corner (start_of edge)) in
         omega (arith, ints, all, back, end, start)
 
-    side-counts : (at : Point) (side : Edge) → passed_by (moved_edge at side) point ≡ (winding (part_of_fan at side) point +ℤ (spoke at (end_of side) -ℤ spoke at (start_of side)))
+    -- What a moved side counts: its triangle, and the ways to its ends.
+    pub side-counts : (at : Point) (side : Edge) → passed_by (moved_edge at side) point ≡ (winding (part_of_fan at side) point +ℤ (spoke at (end_of side) -ℤ spoke at (start_of side)))
     side-counts at side =
         let all = winding-passed (part_of_fan at side) point in
         let back = passed_by-reversed (edge_between at (moved at (end_of side))) point in
@@ -342,33 +343,33 @@ module _ (corners : List Point) (convex : IsConvexAroundOrigin corners) (rings :
         omega (arith, ints, sum, more)
 
     -- and more often where some part winds
-    raw-more : (edge next : Edge) → Follows rings edge next → pos 0 ≤ℤ winding (flat_map ring_edges rings) point → pos 0 <ℤ parts_wind corners convex point (edge, next) → pos 0 <ℤ winding (raw_edges corners rings) point
-    raw-more edge next (ring, held, pair) natural some =
+    raw-more : (outer : ℤ) (edge next : Edge) → Follows rings edge next → outer ≤ℤ winding (flat_map ring_edges rings) point → pos 0 <ℤ parts_wind corners convex point (edge, next) → outer <ℤ winding (raw_edges corners rings) point
+    raw-more outer edge next (ring, held, pair) natural some =
         let sum = raw-winds corners convex point rings proper in
         let one = total-from (parts_wind corners convex point) (neighbours (ring_edges ring)) (pairs-natural ring held) (edge, next) pair in
         let all = total-from parts_of rings rings-natural ring held in
         omega (arith, ints, sum, one, all, natural, some)
 
-    -- It winds around each point strictly inside the band of an edge.
-    pub raw-of_band : (edge next : Edge) → Follows rings edge next → pos 0 ≤ℤ winding (flat_map ring_edges rings) point
+    -- It winds more often than around the points outside around each point strictly inside the band of an edge.
+    pub raw-of_band : (outer : ℤ) (edge next : Edge) → Follows rings edge next → outer ≤ℤ winding (flat_map ring_edges rings) point
         → pos 0 <ℤ left_by (reversed edge) point → pos 0 <ℤ left_by (edge_between (start_of edge) (moved (furthest corners edge) (start_of edge))) point
         → pos 0 <ℤ left_by (moved_edge (furthest corners edge) edge) point → pos 0 <ℤ left_by (edge_between (moved (furthest corners edge) (end_of edge)) (end_of edge)) point
-        → pos 0 <ℤ winding (raw_edges corners rings) point
-    raw-of_band edge next follows natural first second third fourth =
+        → outer <ℤ winding (raw_edges corners rings) point
+    raw-of_band outer edge next follows natural first second third fourth =
         let one = (edge-band-winds corners convex point edge (is-proper edge next follows)).inside first second third fourth in
         let other = fan_winds-natural corners convex point edge next in
-        raw-more edge next follows natural (omega (arith, ints, one, other))
+        raw-more outer edge next follows natural (omega (arith, ints, one, other))
 
     -- And around each one strictly inside a part of a fan where two edges turn left.
-    pub raw-of_part : (edge next side : Edge) → Follows rings edge next → pos 0 <ℤ turn edge next → Contains (fan corners edge next) side → pos 0 ≤ℤ winding (flat_map ring_edges rings) point
+    pub raw-of_part : (outer : ℤ) (edge next side : Edge) → Follows rings edge next → pos 0 <ℤ turn edge next → Contains (fan corners edge next) side → outer ≤ℤ winding (flat_map ring_edges rings) point
         → pos 0 <ℤ left_by (edge_between (end_of edge) (moved (end_of edge) (start_of side))) point → pos 0 <ℤ left_by (moved_edge (end_of edge) side) point
         → pos 0 <ℤ left_by (edge_between (moved (end_of edge) (end_of side)) (end_of edge)) point
-        → pos 0 <ℤ winding (raw_edges corners rings) point
-    raw-of_part edge next side follows left among natural first second third =
+        → outer <ℤ winding (raw_edges corners rings) point
+    raw-of_part outer edge next side follows left among natural first second third =
         let one = (edge-band-winds corners convex point edge (is-proper edge next follows)).natural in
         let here = (side-part-winds corners convex point (end_of edge) side (fan-held corners convex point edge next side among)).inside first second third in
         let all = total-from (λ s. winding (part_of_fan (end_of edge) s) point) (fan corners edge next) (fan-natural corners convex point edge next) side among in
-        raw-more edge next follows natural (by (int_lt (pos 0) (turn edge next)) refl (omega (arith, ints, here, all)) one)
+        raw-more outer edge next follows natural (by (int_lt (pos 0) (turn edge next)) refl (omega (arith, ints, here, all)) one)
       where
         by : (t : Bool) → int_lt (pos 0) (turn edge next) ≡ t → pos 0 <ℤ total (λ s. winding (part_of_fan (end_of edge) s) point) (fan corners edge next) → pos 0 ≤ℤ winding (band edge (furthest corners edge)) point
             → pos 0 <ℤ (winding (band edge (furthest corners edge)) point +ℤ cond t (total (λ s. winding (part_of_fan (end_of edge) s) point) (fan corners edge next)) (pos 0))
@@ -400,11 +401,11 @@ pub record IsInPart (corners : List Point) (rings : List (List Point)) (point : 
   pub upto : pos 0 ≤ℤ left_by (edge_between (moved (end_of edge) (end_of side)) (end_of edge)) point
 
 module _ (corners : List Point) (convex : IsConvexAroundOrigin corners) (rings : List (List Point)) (proper : All (λ edge. start_of edge ≢ end_of edge) (flat_map ring_edges rings)) (point : RationalPoint) where
-  none-or : (z : ℤ) → (z ≡ pos 0) ⊎ (z ≢ pos 0)
-  none-or z =
-      by_lt_z (pos 0) z
+  equal-or : (y z : ℤ) → (z ≡ y) ⊎ (z ≢ y)
+  equal-or y z =
+      by_lt_z y z
       (λ above. inr (λ none. omega (arith, ints, none, above)))
-      (λ upto. by_lt_z z (pos 0)
+      (λ upto. by_lt_z z y
       (λ below. inr (λ none. omega (arith, ints, none, below)))
       (λ from. inl (omega (arith, ints, upto, from))))
 
@@ -421,9 +422,10 @@ module _ (corners : List Point) (convex : IsConvexAroundOrigin corners) (rings :
       by true is wound = found (omega (arith, ints, is)) wound
       by false is wound = absurd (wound refl)
 
-  -- Where the raw curve winds around a point the edges do, or the point lies in a band or in a part of a fan.
-  pub raw-some : winding (raw_edges corners rings) point ≢ pos 0 → (winding (flat_map ring_edges rings) point ≢ pos 0) ⊎ (IsInBand corners rings point ⊎ IsInPart corners rings point)
-  raw-some some =
+  -- Where the raw curve winds around a point unlike around those outside, the edges do, or the point lies in a band or in a part
+  -- of a fan.
+  pub raw-some : (outer : ℤ) → winding (raw_edges corners rings) point ≢ outer → (winding (flat_map ring_edges rings) point ≢ outer) ⊎ (IsInBand corners rings point ⊎ IsInPart corners rings point)
+  raw-some outer some =
       let sum = raw-winds corners convex point rings proper in
       ⊎_elim
       (λ none.
@@ -435,6 +437,6 @@ module _ (corners : List Point) (convex : IsConvexAroundOrigin corners) (rings :
       (λ in_band.
       let (first, second, third, fourth) = (edge-band-winds corners convex point two.0 (is-proper corners convex rings proper two.0 two.1 follows)).closed in_band in
       inr (inl (record { edge = two.0; next = two.1; follows = follows; behind = first; from = second; before = third; upto = fourth })))
-      (none-or (winding (band two.0 (furthest corners two.0)) point)))
+      (equal-or (pos 0) (winding (band two.0 (furthest corners two.0)) point)))
       (λ wound. inl wound)
-      (none-or (winding (flat_map ring_edges rings) point))
+      (equal-or outer (winding (flat_map ring_edges rings) point))

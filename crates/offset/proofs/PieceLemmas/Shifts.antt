@@ -12,7 +12,7 @@ use Rattle.plane.specs.declared.point.Point.{Point}
 use Rattle.plane.specs.Ends.{end_of, start_of}
 use Rattle.plane.specs.Meet.Edges.{RationalPoint}
 use Rattle.noding.specs.Windings.{winding}
-use Rattle.offset.specs.Sum.{IsOfSum}
+use Rattle.offset.specs.Sum.{IsOfSumBeyond}
 use Rattle.plane.proofs.MeetLemmas.Identities.{identity, minus, number, plus, scaled, times}
 use Rattle.noding.proofs.SnapLemmas.Numbers.{n_of}
 use Rattle.offset.proofs.PieceLemmas.Sides.{all_passed, before-both, behind-both, left_by, leftwards-over, leftwards-under, passed, passed_by, right_by, rightwards-over, rightwards-under, winding-passed}
@@ -317,9 +317,9 @@ sum-shifted m n b r s x from by is =
     (times (n_of (m * r)) (plus (times (plus (times (n_of m) (number from)) (n_of (s * n))) (n_of b)) (times (number by) (n_of (m * n))))) (omega arith)
 
 -- A point of a sum is one still if it is shifted, where the edges wind around the other point as before if this is shifted alike.
-pub of_sum-shifted : (k m : ℕ) (some : 0 < m) (edges : List Edge) (corners : List Point) (point : RationalPoint) (is : IsOfSum edges corners point)
-    → winding edges (shifted k m some is.from) ≡ winding edges is.from → IsOfSum edges corners (shifted k m some point)
-of_sum-shifted k m some edges corners point is still = record {
+pub of_sum-shifted : (outer : ℤ) (k m : ℕ) (some : 0 < m) (edges : List Edge) (corners : List Point) (point : RationalPoint) (is : IsOfSumBeyond outer edges corners point)
+    → winding edges (shifted k m some is.from) ≡ winding edges is.from → IsOfSumBeyond outer edges corners (shifted k m some point)
+of_sum-shifted outer k m some edges corners point is still = record {
   from = shifted k m some is.from;
   by = is.by;
   inside = λ none. is.inside (sym still ∙ none);
@@ -338,12 +338,12 @@ of_sum-shifted k m some edges corners point is still = record {
         (subst (λ (u : ℕ). (pos ((m * n) * is.by.n) *ℤ ((pos m *ℤ point.x) +ℤ pos (1 * r))) ≡ (pos (m * r) *ℤ ((((pos m *ℤ is.from.x) +ℤ pos u) *ℤ pos is.by.n) +ℤ (is.by.x *ℤ pos (m * n))))) other found)
 
 -- So what some edges wind around each point of a sum that lies on none of some lines, they wind around each point of it.
-pub from-generic : (edges raw lines : List Edge) (corners : List Point) → All (λ line. start_of line ≢ end_of line) lines
-    → ((point : RationalPoint) → All (λ line. left_by line point ≢ pos 0) lines → IsOfSum edges corners point → winding raw point ≢ pos 0)
-    → (point : RationalPoint) → IsOfSum edges corners point → winding raw point ≢ pos 0
-from-generic edges raw lines corners two generic point is none =
+pub from-generic : (outer : ℤ) (edges raw lines : List Edge) (corners : List Point) → All (λ line. start_of line ≢ end_of line) lines
+    → ((point : RationalPoint) → All (λ line. left_by line point ≢ pos 0) lines → IsOfSumBeyond outer edges corners point → winding raw point ≢ outer)
+    → (point : RationalPoint) → IsOfSumBeyond outer edges corners point → winding raw point ≢ outer
+from-generic outer edges raw lines corners two generic point is none =
     generic (shifted k m some point) (beside lines two (third point.n (omega arith)))
-    (of_sum-shifted k m some edges corners point is (winding-shifted k m some is.from edges (first is.from.n (omega arith))))
+    (of_sum-shifted outer k m some edges corners point is (winding-shifted k m some is.from edges (first is.from.n (omega arith))))
     (winding-shifted k m some point raw (second point.n (omega arith)) ∙ none)
   where
     all : List Edge

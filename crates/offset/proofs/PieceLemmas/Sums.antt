@@ -1,4 +1,4 @@
--- Where the raw curve winds around a point that isn't of it, this point is of the sum.
+-- Where the raw curve winds around a point that isn't of it unlike around those outside, this point is of the sum.
 use Rattle.std.proofs.Common.{◌≡◌, ◌≢◌, ⊎_elim, ℕ, suc, zero, ◌+◌, ◌*◌, ◌<◌, ◌≤◌, ℤ, pos, ◌+ℤ◌, ◌-ℤ◌, ◌*ℤ◌, ◌≤ℤ◌, ◌<ℤ◌, List, [], ◌∷◌, refl, ap, ap₂, subst, sym, ◌∙◌, arith}
 use Rattle.std.specs.List.{All, Contains, flat_map}
 use Rattle.std.specs.Int.RustNames.{unsigned_abs}
@@ -17,7 +17,7 @@ use Rattle.overlay.specs.Contours.Rings.{ring_edges}
 use Rattle.noding.specs.Windings.{winding}
 use Rattle.offset.specs.Shape.{IsConvexAroundOrigin, IsLeftOf, neighbours, sides}
 use Rattle.offset.specs.Raw.{GoesThrough, furthest, moved, moved_edge, raw_edges}
-use Rattle.offset.specs.Sum.{IsOfSum}
+use Rattle.offset.specs.Sum.{IsOfSumBeyond}
 use Rattle.plane.proofs.MeetLemmas.Identities.{IsWithin-product, Term, identity, minus, number, plus, scaled, times, unscaled}
 use Rattle.noding.proofs.SnapLemmas.Numbers.{Natural, n_of, natural}
 use Rattle.overlay.proofs.FillLemmas.Premises.{All-among}
@@ -40,9 +40,9 @@ AreClose k n x m y = ((pos k *ℤ ((pos n *ℤ y) -ℤ (pos m *ℤ x))) ≤ℤ p
 abbrev pub IsNearBy : ℕ → RationalPoint → RationalPoint → Type 0
 IsNearBy k point other = AreClose k point.n point.x other.n other.x × AreClose k point.n point.y other.n other.y
 
--- The edges wind around points as near to each point of them as you like.
-abbrev pub HaveNear : List Edge → Type 0
-HaveNear edges = (edge : Edge) (base : RationalPoint) (k : ℕ) → Contains edges edge → IsOf edge base → (other : RationalPoint) × IsNearBy k base other × (winding edges other ≢ pos 0)
+-- As near to each point of the edges as you like there are points around which they wind unlike around those outside.
+abbrev pub HaveNear : ℤ → List Edge → Type 0
+HaveNear outer edges = (edge : Edge) (base : RationalPoint) (k : ℕ) → Contains edges edge → IsOf edge base → (other : RationalPoint) × IsNearBy k base other × (winding edges other ≢ outer)
 
 -- ---- what lies strictly inside
 
@@ -102,9 +102,9 @@ still_left k n m r wx wy px py bx by qx qy sx sy some over wide inside (x_upto, 
     unscaled (k * m) (pos 0) (left_from n r wx wy px py qx qy sx sy) (mul-pos some over) (omega (arith, ints, spread, spread_is, most, same, more, more_is, sum, none))
 
 -- A point that lies strictly inside the shape, from a point of an edge, is of the sum.
-pub sum-near : (edges : List Edge) (corners : List Point) → HaveNear edges → (point base : RationalPoint) (edge : Edge) → Contains edges edge → IsOf edge base
-    → ((side : Edge) → Contains (sides corners) side → pos 0 <ℤ margin point base side) → IsOfSum edges corners point
-sum-near edges corners near point base edge among of inside = found (near edge base k among of)
+pub sum-near : (outer : ℤ) (edges : List Edge) (corners : List Point) → HaveNear outer edges → (point base : RationalPoint) (edge : Edge) → Contains edges edge → IsOf edge base
+    → ((side : Edge) → Contains (sides corners) side → pos 0 <ℤ margin point base side) → IsOfSumBeyond outer edges corners point
+sum-near outer edges corners near point base edge among of inside = found (near edge base k among of)
   where
     k : ℕ
     k = 1 + (point.n * base.n) * spans (sides corners)
@@ -124,7 +124,7 @@ sum-near edges corners near point base edge among of inside = found (near edge b
     adds n r p q =
         identity (times (n_of (r * (n * r))) (number p)) (times (n_of n) (plus (times (number q) (n_of (n * r))) (times (minus (times (n_of r) (number p)) (times (n_of n) (number q))) (n_of r)))) (omega arith)
 
-    found : (q : RationalPoint) × IsNearBy k base q × (winding edges q ≢ pos 0) → IsOfSum edges corners point
+    found : (q : RationalPoint) × IsNearBy k base q × (winding edges q ≢ outer) → IsOfSumBeyond outer edges corners point
     found (q, (close_x, close_y), winds) = record {
       from = q;
       by = less q;
@@ -135,9 +135,9 @@ sum-near edges corners near point base edge among of inside = found (near edge b
       y = adds point.n q.n point.y q.y;
     }
 
--- A point that the edges wind around is, as the origin is of the shape.
-pub sum-itself : (edges : List Edge) (corners : List Point) → IsConvexAroundOrigin corners → (point : RationalPoint) → winding edges point ≢ pos 0 → IsOfSum edges corners point
-sum-itself edges corners convex point winds = record {
+-- A point inside is, as the origin is of the shape.
+pub sum-itself : (outer : ℤ) (edges : List Edge) (corners : List Point) → IsConvexAroundOrigin corners → (point : RationalPoint) → winding edges point ≢ outer → IsOfSumBeyond outer edges corners point
+sum-itself outer edges corners convex point winds = record {
   from = point;
   by = record { n = 1; x = pos 0; y = pos 0; positive = omega arith };
   inside = winds;
@@ -286,18 +286,18 @@ module _ (point : RationalPoint) (edge : Edge) (c : Point) (w a : ℕ) (wide : c
           ∙ identity (plus (times (n_of n) (minus (times (times (n_of n) (n_of w)) (number c)) (times (times (n_of n) (n_of w)) (number c)))) (times (n_of (n * w)) (number p))) (times (n_of (n * w)) (number p)) (omega arith)
 
 -- A point of a band that isn't on the moved edge is of the sum.
-pub sum-of_band : (edges : List Edge) (corners : List Point) → IsConvexAroundOrigin corners → HaveNear edges → (point : RationalPoint) (edge : Edge) → Contains edges edge
+pub sum-of_band : (outer : ℤ) (edges : List Edge) (corners : List Point) → IsConvexAroundOrigin corners → HaveNear outer edges → (point : RationalPoint) (edge : Edge) → Contains edges edge
     → (c : Point) → Contains corners c → pos 0 <ℤ cross c.x c.y (edge.x1 -ℤ edge.x0) (edge.y1 -ℤ edge.y0)
     → pos 0 ≤ℤ left_by (reversed edge) point → pos 0 ≤ℤ left_by (edge_between (start_of edge) (moved c (start_of edge))) point
     → pos 0 ≤ℤ left_by (moved_edge c edge) point → pos 0 ≤ℤ left_by (edge_between (moved c (end_of edge)) (end_of edge)) point
-    → ¬ (GoesThrough (moved_edge c edge) point) → IsOfSum edges corners point
-sum-of_band edges corners convex near point edge among c held some behind from before upto off =
+    → ¬ (GoesThrough (moved_edge c edge) point) → IsOfSumBeyond outer edges corners point
+sum-of_band outer edges corners convex near point edge among c held some behind from before upto off =
     found (natural (crossed c (way edge)) (omega (arith, ints, some))) (natural (crossed c (seen point (start_of edge))) (let is = from_is point.n point.x point.y edge.x0 edge.y0 edge.x1 edge.y1 c.x c.y in omega (arith, ints, is, from)))
   where
     p : Point
     p = seen point (start_of edge)
 
-    found : Natural (crossed c (way edge)) → Natural (crossed c p) → IsOfSum edges corners point
+    found : Natural (crossed c (way edge)) → Natural (crossed c p) → IsOfSumBeyond outer edges corners point
     found width share =
         let is = width.is in
         let share_is = share.is in
@@ -311,7 +311,7 @@ sum-of_band edges corners convex near point edge among c held some behind from b
         let less : crossed p (way edge) <ℤ (pos point.n *ℤ pos width.k) =
         by_lt_z (crossed p (way edge)) (pos point.n *ℤ pos width.k) (λ below. below)
         (λ back. absurd (off (on-moved point edge c width.k share.k is wide share_is within (omega (arith, ints, back, before, before_at, all))))) in
-        sum-near edges corners near point (base point edge c width.k share.k is wide share_is) edge among (share.k, record { share = within; x = refl; y = refl })
+        sum-near outer edges corners near point (base point edge c width.k share.k is wide share_is) edge among (share.k, record { share = within; x = refl; y = refl })
         (λ side side_held.
         let height = All-contains (λ (d : Point). pos 0 ≤ℤ height_over side d) corners c (All-contains (λ (e : Edge). All (λ (d : Point). pos 0 ≤ℤ height_over e d) corners) (sides corners) side convex.convex side_held) held in
         let sweeps = All-contains (λ (e : Edge). pos 0 <ℤ swept e) (sides corners) side convex.left side_held in
@@ -369,12 +369,12 @@ end-of edge = (1, record { share = omega arith; x = last edge.x0 edge.x1; y = la
     last u v = identity (number v) (plus (times (n_of 1) (number u)) (times (n_of 1) (minus (number v) (number u)))) (omega arith)
 
 -- A point of a part of a fan that isn't on the moved side is of the sum.
-pub sum-of_part : (edges : List Edge) (corners : List Point) → IsConvexAroundOrigin corners → HaveNear edges → (point : RationalPoint) (edge : Edge) → Contains edges edge
+pub sum-of_part : (outer : ℤ) (edges : List Edge) (corners : List Point) → IsConvexAroundOrigin corners → HaveNear outer edges → (point : RationalPoint) (edge : Edge) → Contains edges edge
     → (side : Edge) → Contains (sides corners) side → Contains corners (start_of side) → Contains corners (end_of side)
     → pos 0 ≤ℤ left_by (edge_between (end_of edge) (moved (end_of edge) (start_of side))) point → pos 0 ≤ℤ left_by (moved_edge (end_of edge) side) point
     → pos 0 ≤ℤ left_by (edge_between (moved (end_of edge) (end_of side)) (end_of edge)) point
-    → ¬ (GoesThrough (moved_edge (end_of edge) side) point) → IsOfSum edges corners point
-sum-of_part edges corners convex near point edge among side side_held start_held end_held from before upto off =
+    → ¬ (GoesThrough (moved_edge (end_of edge) side) point) → IsOfSumBeyond outer edges corners point
+sum-of_part outer edges corners convex near point edge among side side_held start_held end_held from before upto off =
     found (natural (swept side) (omega (arith, ints, some))) (natural (cross a.x a.y p.x p.y) (let is = from_corner point.n point.x point.y v.x v.y a.x a.y b.x b.y in omega (arith, ints, is, from)))
   where
     v : Point
@@ -395,7 +395,7 @@ sum-of_part edges corners convex near point edge among side side_held start_held
     corner-left : (other : Edge) → Contains (sides corners) other → (c : Point) → Contains corners c → pos 0 ≤ℤ height_over other c
     corner-left other other_held c c_held = All-contains (λ (d : Point). pos 0 ≤ℤ height_over other d) corners c (All-contains (λ (e : Edge). All (λ (d : Point). pos 0 ≤ℤ height_over e d) corners) (sides corners) other convex.convex other_held) c_held
 
-    found : Natural (swept side) → Natural (cross a.x a.y p.x p.y) → IsOfSum edges corners point
+    found : Natural (swept side) → Natural (cross a.x a.y p.x p.y) → IsOfSumBeyond outer edges corners point
     found width share =
         let is = width.is in
         let share_is = share.is in
@@ -405,7 +405,7 @@ sum-of_part edges corners convex near point edge among side side_held start_held
         let less : pos 0 <ℤ left_by (moved_edge v side) point =
         by_lt_z (pos 0) (left_by (moved_edge v side) point) (λ above. above)
         (λ back. absurd (off (on-side width.k share.k is share_is wide (omega (arith, ints, before, back))))) in
-        sum-near edges corners near point (whole v) edge among (end-of edge)
+        sum-near outer edges corners near point (whole v) edge among (end-of edge)
         (λ other other_held.
         let sweeps = All-contains (λ (e : Edge). pos 0 <ℤ swept e) (sides corners) other convex.left other_held in
         let above = some in
@@ -468,25 +468,25 @@ module _ (corners : List Point) (convex : IsConvexAroundOrigin corners) where
       let (two, pair, is) = furthest-pair corners convex edge proper in
       subst (λ (c : Point). Contains corners c) (furthest-is corners convex edge two pair is) (start-held corners two.1 (neighbours-held (sides corners) two.0 two.1 pair).1)
 
-  module _ (rings : List (List Point)) (proper : All (λ edge. start_of edge ≢ end_of edge) (flat_map ring_edges rings)) (near : HaveNear (flat_map ring_edges rings)) (point : RationalPoint)
+  module _ (outer : ℤ) (rings : List (List Point)) (proper : All (λ edge. start_of edge ≢ end_of edge) (flat_map ring_edges rings)) (near : HaveNear outer (flat_map ring_edges rings)) (point : RationalPoint)
       (off : All (λ edge. ¬ (GoesThrough edge point)) (raw_edges corners rings)) where
-    of-band : IsInBand corners rings point → IsOfSum (flat_map ring_edges rings) corners point
+    of-band : IsInBand corners rings point → IsOfSumBeyond outer (flat_map ring_edges rings) corners point
     of-band is =
         let held = (follows-held corners convex rings proper is.edge is.next is.follows).0 in
         let real = All-contains (λ (e : Edge). start_of e ≢ end_of e) (flat_map ring_edges rings) is.edge proper held in
-        sum-of_band (flat_map ring_edges rings) corners convex near point is.edge held (furthest corners is.edge) (furthest-held is.edge real) (furthest-beside corners convex is.edge real)
+        sum-of_band outer (flat_map ring_edges rings) corners convex near point is.edge held (furthest corners is.edge) (furthest-held is.edge real) (furthest-beside corners convex is.edge real)
         is.behind is.from is.before is.upto
         (All-contains (λ (e : Edge). ¬ (GoesThrough e point)) (raw_edges corners rings) (moved_edge (furthest corners is.edge) is.edge) off (moved-held corners convex rings proper is.edge is.next is.follows))
 
-    of-part : IsInPart corners rings point → IsOfSum (flat_map ring_edges rings) corners point
+    of-part : IsInPart corners rings point → IsOfSumBeyond outer (flat_map ring_edges rings) corners point
     of-part is =
         let held = (follows-held corners convex rings proper is.edge is.next is.follows).0 in
         let side_held = fan-held corners convex point is.edge is.next is.side is.among in
-        sum-of_part (flat_map ring_edges rings) corners convex near point is.edge held is.side side_held (start-held corners is.side side_held) (end-held is.side side_held)
+        sum-of_part outer (flat_map ring_edges rings) corners convex near point is.edge held is.side side_held (start-held corners is.side side_held) (end-held is.side side_held)
         is.from is.before is.upto
         (All-contains (λ (e : Edge). ¬ (GoesThrough e point)) (raw_edges corners rings) (moved_edge (end_of is.edge) is.side) off (side-held corners convex rings proper is.edge is.next is.side is.follows is.left is.among))
 
-    -- Where the raw curve winds around a point that isn't of it, this is of the sum.
-    pub not-too-much : winding (raw_edges corners rings) point ≢ pos 0 → IsOfSum (flat_map ring_edges rings) corners point
+    -- Where the raw curve winds so around a point that isn't of it, this is of the sum.
+    pub not-too-much : winding (raw_edges corners rings) point ≢ outer → IsOfSumBeyond outer (flat_map ring_edges rings) corners point
     not-too-much winds =
-        ⊎_elim (λ wound. sum-itself (flat_map ring_edges rings) corners convex point wound) (λ parts. ⊎_elim of-band of-part parts) (raw-some corners convex rings proper point winds)
+        ⊎_elim (λ wound. sum-itself outer (flat_map ring_edges rings) corners convex point wound) (λ parts. ⊎_elim of-band of-part parts) (raw-some corners convex rings proper point outer winds)

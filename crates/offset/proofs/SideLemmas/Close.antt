@@ -1,4 +1,4 @@
--- As near to a point of an edge as is asked for there are points around which the edges wind once.
+-- As near to a point of an edge as is asked for there are points inside of what the edges bound.
 use Rattle.std.proofs.Common.{◌≡◌, ◌≢◌, ◌⊎◌, inl, inr, ℕ, suc, ◌+◌, ◌-◌, ◌*◌, ◌<◌, ◌≤◌, ℤ, pos, negsuc, ◌+ℤ◌, ◌-ℤ◌, ◌*ℤ◌, ◌<ℤ◌, ◌≤ℤ◌, List, refl, ap₂, sym, subst, ◌∙◌, arith}
 use Rattle.std.specs.List.{Contains}
 use Rattle.std.proofs.Math.Nat.{mul-le-mul_left, mul-pos}
@@ -184,8 +184,8 @@ size z = up z + down z
 within_size : (z : ℤ) (m : ℕ) → up z + down z ≤ m → IsWithin m z
 within_size z m more = record { from = omega (arith, ints, more); upto = omega (arith, ints, more) }
 
--- So near to any point of an edge there is a point around which the edges wind once.
-pub close-once : (edges : List Edge) → BoundOnce edges → (edge : Edge) (at : RationalPoint) → Contains edges edge → IsOf edge at → (asked : ℕ) → (point : RationalPoint) × (winding edges point ≡ pos 1) × IsCloseTo asked at point
+-- So near to any point of an edge there is a point inside.
+pub close-once : (edges : List Edge) (bounds : BoundOnce edges) (edge : Edge) (at : RationalPoint) → Contains edges edge → IsOf edge at → (asked : ℕ) → (point : RationalPoint) × (winding edges point ≡ (bounds.outer +ℤ pos 1)) × IsCloseTo asked at point
 close-once edges bounds edge at among (a, share) asked =
     let proper = All-contains (λ (e : Edge). start_of e ≢ end_of e) edges edge bounds.two_ends among in
     let unit = left edge proper in

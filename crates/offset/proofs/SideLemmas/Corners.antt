@@ -25,7 +25,8 @@ use Rattle.offset.proofs.CoverLemmas.Vectors.{crossed, turn_back, way}
 use Rattle.offset.proofs.SideLemmas.Aside.{IsAside, IsClear, IsNearBy, clear-from, clear-misses, enough, has-or_aside, mean, near, on-near}
 use Rattle.offset.proofs.SideLemmas.Close.{between-no_end}
 use Rattle.offset.proofs.SideLemmas.Crossing.{less_times}
-use Rattle.offset.proofs.SideLemmas.Inner.{BoundOnce, opposite}
+use Rattle.offset.specs.Shape.{opposite}
+use Rattle.offset.proofs.SideLemmas.Inner.{BoundOnce}
 use Rattle.offset.proofs.SideLemmas.Rays.{IsLastLeft, IsNext, IsNextRight, crossed-itself, next-right}
 use Rattle.offset.proofs.SideLemmas.Right.{base_of, goes-right, winding-towards}
 use Rattle.offset.proofs.SideLemmas.Ways.{winds-alike}
@@ -160,7 +161,7 @@ module _ (edges : List Edge) (at : Point) (to : RationalPoint) where
 
 -- ---- the edge that comes next
 
-module _ (edges : List Edge) (bounds : BoundOnce edges) (at : Point) (to : RationalPoint) (none : winding edges to ≡ pos 0) (only : MeetsAtStart edges (whole at) to)
+module _ (edges : List Edge) (bounds : BoundOnce edges) (at : Point) (to : RationalPoint) (none : winding edges to ≡ bounds.outer) (only : MeetsAtStart edges (whole at) to)
     (off : (edge : Edge) → Contains edges edge → side_of edge to ≢ pos 0) (some : Edge) (some_among : Contains edges some) (some_ends : end_of some ≡ at) where
   abbrev from : RationalPoint
   from = base edges at to
@@ -244,9 +245,9 @@ module _ (edges : List Edge) (bounds : BoundOnce edges) (at : Point) (to : Ratio
       by (inl (inr ends)) = found (reversed edge) (spoke-back edges at to edge among) ends (IsOf-reversed edge point of)
       by (inr clear) = absurd (clear-misses from first second parts edge positive clear point a m on.some on.share of near_by)
 
-  -- an edge from there isn't the first thing that is met on a short way to its left, to where the edges don't wind
+  -- an edge from there isn't the first thing that is met on a short way to its left, to a point outside
   never-left : (edge : Edge) → Contains edges edge → start_of edge ≡ at → (vector : Point) → pos 0 <ℤ crossed (way edge) vector → (parts : ℕ) (positive : 0 < parts) → 1 < parts
-      → winding edges (near from parts positive vector) ≡ pos 0 → ¬ (MeetsAtStart edges (near from parts positive (way edge)) (near from parts positive vector))
+      → winding edges (near from parts positive vector) ≡ bounds.outer → ¬ (MeetsAtStart edges (near from parts positive (way edge)) (near from parts positive vector))
   never-left edge among starts vector left parts positive more outside meets =
       let side = side-near edges at to edge starts parts positive vector in
       let right = goes-right edges bounds edge (near from parts positive (way edge)) (near from parts positive vector) among (1, share) inner outside meets (λ is. omega (arith, ints, is, side, left)) in
@@ -442,9 +443,9 @@ not-between edges at to edge other held starts_too side among starts between = b
     by (inr is) (inr (inl (after, turn))) = let last = is.last other among starts in omega (arith, ints, last, after)
     by (inr is) (inr (inr (before, turn))) = let left = is.left other among starts in let is_same = same in omega (arith, ints, left, is_same, before)
 
--- Where the way from an end to a point around which the edges don't wind meets them no more, an edge ends there from which, going
+-- Where the way from an end to a point outside of what the edges bound meets them no more, an edge ends there from which, going
 -- counterclockwise, none at that end is passed before the way.
-pub ends-last : (edges : List Edge) → BoundOnce edges → (to : RationalPoint) → winding edges to ≡ pos 0 → ((edge : Edge) → Contains edges edge → side_of edge to ≢ pos 0)
+pub ends-last : (edges : List Edge) (bounds : BoundOnce edges) (to : RationalPoint) → winding edges to ≡ bounds.outer → ((edge : Edge) → Contains edges edge → side_of edge to ≢ pos 0)
     → (at : Point) → (edge : Edge) × Contains edges edge × (end_of edge ≡ at) → MeetsAtStart edges (whole at) to
     → (edge : Edge) × Contains edges edge × (end_of edge ≡ at)
     × ((other : Edge) → Contains edges other → end_of other ≡ at → ¬ (IsBetween (back edge) (back other) (ahead to at)))

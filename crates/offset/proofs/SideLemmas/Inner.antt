@@ -25,20 +25,19 @@ use Rattle.offset.proofs.SideLemmas.Aside.{IsAside, IsClear, clear-from, clear-m
 use Rattle.offset.proofs.SideLemmas.Crossing.{CrossesLeft, CrossesRight, jump}
 use Rattle.offset.proofs.SideLemmas.Jumps.{jumps}
 use Rattle.offset.proofs.SideLemmas.Meeting.{leftness}
+use Rattle.offset.specs.Shape.{opposite}
 use Rattle.offset.proofs.SideLemmas.Ways.{met, way_between, winding-between}
 
--- Closed edges that meet only at common ends, no two of them with the same ends and none a point, which wind once around each
--- point or not at all.
+-- Closed edges that meet only at common ends, no two of them with the same ends and none a point, which wind around all points
+-- outside of what they bound equally often, and around those inside once more.
 pub record BoundOnce (edges : List Edge) : Type 0 where
   pub closed : IsClosed edges
   pub noded : AreNoded edges
   pub distinct : AreDistinct edges
   pub two_ends : All (λ edge. start_of edge ≢ end_of edge) edges
-  pub once : (point : RationalPoint) → (winding edges point ≡ pos 0) ⊎ (winding edges point ≡ pos 1)
-
--- The vector the other way round.
-abbrev pub opposite : Point → Point
-opposite vector = record { x = pos 0 -ℤ vector.x; y = pos 0 -ℤ vector.y }
+  -- how often they wind around the points outside
+  pub outer : ℤ
+  pub once : (point : RationalPoint) → (winding edges point ≡ outer) ⊎ (winding edges point ≡ (outer +ℤ pos 1))
 
 -- ---- ends
 
@@ -312,8 +311,8 @@ module _ (edges : List Edge) (bounds : BoundOnce edges) (edge : Edge) (among : C
             subst (λ (w : Point). CrossesLeft (scaled_edge ((base.n * parts) * (base.n * parts)) (reversed edge)) (way_between (near base parts some w) (near base parts some (opposite vector)))) double
             (crosses (reversed edge) base there.0 there.1 (inner-start (reversed edge) base there.0 there.1 no_end) (inner-end (reversed edge) base there.0 there.1 no_end) (opposite vector) back_left parts some)
 
-    -- Just to the left of the edge they wind once.
-    pub left-once : (least : ℕ) × ((parts : ℕ) (some : 0 < parts) → least ≤ parts → winding edges (near base parts some vector) ≡ pos 1)
+    -- Just to the left of the edge they wind as around the points inside.
+    pub left-once : (least : ℕ) × ((parts : ℕ) (some : 0 < parts) → least ≤ parts → winding edges (near base parts some vector) ≡ (bounds.outer +ℤ pos 1))
     left-once =
         let (least, clear) = all-clear vector (opposite vector) in
         let (least_back, clear_back) = all-clear (opposite vector) vector in (
@@ -322,7 +321,7 @@ module _ (edges : List Edge) (bounds : BoundOnce edges) (edge : Edge) (among : C
               (left-more parts some (clear parts (omega (arith, more))) (clear_back parts (omega (arith, more)))) (bounds.once (near base parts some vector)) (bounds.once (near base parts some (opposite vector))),
         )
       where
-        by : (p q : ℤ) → p ≡ (q +ℤ pos 1) → (p ≡ pos 0) ⊎ (p ≡ pos 1) → (q ≡ pos 0) ⊎ (q ≡ pos 1) → p ≡ pos 1
+        by : (p q : ℤ) → p ≡ (q +ℤ pos 1) → (p ≡ bounds.outer) ⊎ (p ≡ (bounds.outer +ℤ pos 1)) → (q ≡ bounds.outer) ⊎ (q ≡ (bounds.outer +ℤ pos 1)) → p ≡ (bounds.outer +ℤ pos 1)
         by p q is (inr one) other = one
         by p q is (inl none) (inl other) = omega (arith, ints, is, other)
         by p q is (inl none) (inr other) = absurd (omega (arith, ints, is, none, other))

@@ -11,7 +11,7 @@ use Rattle.plane.proofs.MeetLemmas.Identities.{identity, minus, number, times}
 use Rattle.noding.proofs.SnapLemmas.Numbers.{n_of, product_positive}
 use Rattle.offset.proofs.CoverLemmas.Numbers.{positive-factor}
 use Rattle.offset.proofs.CoverLemmas.Vectors.{crossed, plucker, way}
-use Rattle.offset.proofs.SideLemmas.Inner.{opposite}
+use Rattle.offset.specs.Shape.{opposite}
 
 -- ---- vectors in a half-plane
 

@@ -1,4 +1,4 @@
--- On which side of an edge a point lies around which the edges don't wind, where the way to it meets them only at its start.
+-- On which side of an edge a point lies outside of what the edges bound, where the way to it meets them only at its start.
 use Rattle.std.proofs.Common.{◌≡◌, ◌≢◌, ℕ, zero, suc, ◌+◌, ◌-◌, ◌*◌, ◌<◌, ◌≤◌, ℤ, pos, ◌+ℤ◌, ◌-ℤ◌, ◌*ℤ◌, ◌<ℤ◌, List, ap, ap₂, sym, subst, ◌∙◌, arith}
 use Rattle.std.specs.List.{Contains}
 use Rattle.std.proofs.Math.Nat.{mul-pos}
@@ -107,9 +107,8 @@ turn-towards edge at to a share =
     (minus (times dx (minus (times s (number to.y)) (times t (plus (times s (number edge.y0)) (times (n_of a) dy))))) (times dy (minus (times s (number to.x)) (times t (plus (times s (number edge.x0)) (times (n_of a) dx))))))
     (times s (minus (times dx (minus (number to.y) (times t (number edge.y0)))) (times dy (minus (number to.x) (times t (number edge.x0)))))) (omega arith)
 
--- From a point inside an edge a way that meets the edges no more, to a point around which they don't wind, goes to the right of
--- the edge.
-pub goes-right : (edges : List Edge) → BoundOnce edges → (edge : Edge) (at to : RationalPoint) → Contains edges edge → IsOf edge at → ¬ (IsEnd edge at) → winding edges to ≡ pos 0 → MeetsAtStart edges at to
+-- From a point inside an edge a way that meets the edges no more, to a point outside, goes to the right of the edge.
+pub goes-right : (edges : List Edge) (bounds : BoundOnce edges) (edge : Edge) (at to : RationalPoint) → Contains edges edge → IsOf edge at → ¬ (IsEnd edge at) → winding edges to ≡ bounds.outer → MeetsAtStart edges at to
     → side_of edge to ≢ pos 0 → side_of edge to <ℤ pos 0
 goes-right edges bounds edge at to among of inner none only apart_from =
     by_lt_z (side_of edge to) (pos 0) (λ right. right)

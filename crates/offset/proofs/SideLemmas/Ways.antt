@@ -227,7 +227,7 @@ pub crossed-back : (edges : List Edge) (from to : RationalPoint) → Crossed edg
 crossed-back edges from to found = record { edge = found.edge; point = found.point; a = found.m - found.a; m = found.m; among = found.among; of = found.of; on = on-back from to found.point found.a found.m found.on }
 
 -- of each element the one or the other
-all_or_one : {X : Type 0} (P R : X → Type 0) (xs : List X) → ((x : X) → P x ⊎ R x) → All P xs ⊎ ((x : X) × Contains xs x × R x)
+pub all_or_one : {X : Type 0} (P R : X → Type 0) (xs : List X) → ((x : X) → P x ⊎ R x) → All P xs ⊎ ((x : X) × Contains xs x × R x)
 all_or_one P R [] each = inl (All-nil P)
 all_or_one P R (x ∷ xs) each = by (each x) (all_or_one P R xs each)
   where

@@ -11,7 +11,6 @@ use Rattle.overlay.specs.Contours.Rings.{AreContours, IsRing, ring_edges}
 use Rattle.overlay.specs.Polygons.{AreAppended, BoundsSome, IsPolygon}
 use Rattle.overlay.specs.Polygons.{rings_of as all_rings}
 use Rattle.overlay.specs.Rings.{edges_in}
-use Rattle.overlay.specs.declared.fill.rules.FillRule.TheVariants.{NonZero}
 use Rattle.overlay.specs.declared.fill.rules.Operation.TheVariants.{Union}
 use Rattle.overlay.proofs.Callers.{AreEnds-joined, AreJoined-first, bounds-some, rings-joined}
 use Rattle.offset.proofs.WoundLemmas.{polygons-wound}
@@ -49,7 +48,7 @@ append_polygons-requires-clause-bounding g c =
     let same = rings-joined rings c.deref.result.now c.deref-2.result.now
     (AreJoined-first rings _ _ _ _ _ _ c.new-points.ensures.items c.new-ends.ensures.items points_are ends_are c.deref.ensures.value c.deref-2.ensures.value) in
     subst (λ (all : List (List Point)). BoundsSome (flat_map ring_edges all)) (sym same)
-    (bounds-some NonZero Union _ _ (flat_map ring_edges rings) is.bounds sloped)
+    (bounds-some c.args.rule Union _ _ (flat_map ring_edges rings) is.bounds sloped)
 
 pub returns-clause-ok : goal.returns-clause-ok
 returns-clause-ok g c =
@@ -61,13 +60,13 @@ returns-clause-ok g c =
     let new = c.append_polygons.new.out in
     let (rings, is, _, points_are, ends_are) = c.in_ok-boundary.ensures.ok in
     let same = rings-joined rings points ends (AreJoined-first rings _ _ _ _ _ _ c.new-points.ensures.items c.new-ends.ensures.items points_are ends_are c.deref.ensures.value c.deref-2.ensures.value) in
-    let bounds : BoundsResult NonZero Union (take count raw) (drop count raw) (edges_in points ends) =
-    subst (λ (all : List (List Point)). BoundsResult NonZero Union (take count raw) (drop count raw) (flat_map ring_edges all)) (sym same) is.bounds in
-    let bounds' : BoundsResult NonZero Union raw [] (edges_in points ends) =
-    subst₂ (λ (subject clip : List Edge). BoundsResult NonZero Union subject clip (edges_in points ends)) (all-first raw count refl) (none-behind raw count refl) bounds in
+    let bounds : BoundsResult c.args.rule Union (take count raw) (drop count raw) (edges_in points ends) =
+    subst (λ (all : List (List Point)). BoundsResult c.args.rule Union (take count raw) (drop count raw) (flat_map ring_edges all)) (sym same) is.bounds in
+    let bounds' : BoundsResult c.args.rule Union raw [] (edges_in points ends) =
+    subst₂ (λ (subject clip : List Edge). BoundsResult c.args.rule Union subject clip (edges_in points ends)) (all-first raw count refl) (none-behind raw count refl) bounds in
     on_ok_weaker c.append_polygons.result (λ (found : (whole : List (List (List Point))) × All IsPolygon whole × AreContours (edges_in points ends) (all_rings whole)
     × AreAppended (map (λ polygon. map outline polygon) whole) out.points.items new.points.items out.ring_ends.items new.ring_ends.items out.polygon_ends.items new.polygon_ends.items). (
       map (λ polygon. map outline polygon) found.0,
-      polygons-wound raw (edges_in points ends) found.0 bounds' found.1 found.2,
+      polygons-wound c.args.rule raw (edges_in points ends) found.0 bounds' found.1 found.2,
       found.3,
     )) c.append_polygons.ensures.ok
