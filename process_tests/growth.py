@@ -77,7 +77,7 @@ def raw_curve(rings, shape):
             if cross(way, on) > 0:
                 fan = (side for side in sides if cross(way, vector(side)) >= 0 and cross(on, vector(side)) < 0)
                 found += [moved(side, at) for side in fan]
-            else:
+            elif furthest(shape, way) != furthest(shape, on):
                 (x, y), (z, w) = furthest(shape, way), furthest(shape, on)
                 found += [(at[0] + x, at[1] + y, *at), (*at, at[0] + z, at[1] + w)]
     return found

@@ -43,8 +43,8 @@ enum itree_status {
     ITREE_STOPPED = 9,  /* The flag of itree_stop_flag stopped the call. */
     ITREE_WINDOW = 10,  /* A window has no points or comes too near to the ends of 32 bits, or two windows overlap. */
     ITREE_UNFIT = 11,   /* Tiles don't fit: a polygon leaves its window, or polygons at borders overlap. */
-    ITREE_SHAPE = 12,   /* A shape by which polygons grow isn't convex around the origin. */
-    ITREE_RANGE = 13    /* What has grown leaves 32 bits. */
+    ITREE_SHAPE = 12,   /* A shape by which polygons grow or shrink isn't convex around the origin. */
+    ITREE_RANGE = 13    /* What grows or shrinks leaves 32 bits. */
 };
 
 /* A status in words, which stay as long as the library does; of a number that is none, that it is none. */
@@ -376,7 +376,8 @@ int32_t itree_join(const struct itree_window *windows, size_t window_count, cons
  * all around any other, if each edge of the curve around the sum isn't moved, or runs along an axis, or isn't within half a unit, on
  * both axes, of the point, and none goes through it. The curve is each edge of those rings, moved by the corner of the shape that
  * lies furthest to the right of it, and what joins these at corners: around one that turns left the sides of the shape, and at one
- * that turns right the ways to the corner itself and on. Around no point do they wind more often. The call returns
+ * that turns right the ways to the corner itself and on, or nothing where the same corner of the shape moves both edges. Around no
+ * point do they wind more often. The call returns
  *   ITREE_ANSWERED  and *polygons is the caller's, also where there are none;
  *   ITREE_REFUSED   and *polygons is NULL;
  *   ITREE_POINTER   exactly where a pointer is faulty, and *polygons stays as it was;
@@ -389,6 +390,18 @@ int32_t itree_join(const struct itree_window *windows, size_t window_count, cons
 int32_t itree_minkowski(const struct itree_point *points, size_t point_count, const size_t *ring_ends,
                         size_t ring_count, const struct itree_point *shape, size_t corner_count, int32_t rule,
                         struct itree_polygons **polygons);
+
+/* Writes a handle of the polygons of what is left of the inside of rings, by one of itree_fill_rule, where a shape is taken along
+ * outside: of each point from which the whole shape lies inside. So what is inside shrinks by the shape on all sides; narrow parts
+ * go, and polygons come apart there.
+ *
+ * Rings and shape are as itree_minkowski takes them. The polygons wind once around each point that is left, and not at all around
+ * any other, as those of itree_minkowski do: the curve is that of what bounds the inside, the other way round, and of the shape turned
+ * by half a turn. The call returns what itree_minkowski does; ITREE_RANGE comes where a corner of that curve, or of the shape turned,
+ * is no point of 32 bits. */
+int32_t itree_erode(const struct itree_point *points, size_t point_count, const size_t *ring_ends, size_t ring_count,
+                    const struct itree_point *shape, size_t corner_count, int32_t rule,
+                    struct itree_polygons **polygons);
 
 /* Writes the corners of a convex polygon that stands for a circle around the origin, counterclockwise: a shape for
  * itree_minkowski. It has at most so many corners: 8, 16, 24 or more, up to 8,192, as far as most allows, and no more than eight

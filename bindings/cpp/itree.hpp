@@ -165,16 +165,16 @@ public:
     Unfit() : std::invalid_argument("tiles don't fit: a polygon leaves its window, or polygons at borders overlap") {}
 };
 
-/// A shape by which polygons grow isn't convex around the origin.
+/// A shape by which polygons grow or shrink isn't convex around the origin.
 class ShapeFault : public std::invalid_argument {
 public:
-    ShapeFault() : std::invalid_argument("a shape by which polygons grow isn't convex around the origin") {}
+    ShapeFault() : std::invalid_argument("a shape by which polygons grow or shrink isn't convex around the origin") {}
 };
 
-/// What has grown leaves 32 bits.
+/// What grows or shrinks leaves 32 bits.
 class RangeFault : public std::invalid_argument {
 public:
-    RangeFault() : std::invalid_argument("what has grown leaves 32 bits") {}
+    RangeFault() : std::invalid_argument("what grows or shrinks leaves 32 bits") {}
 };
 
 namespace detail {
@@ -1272,6 +1272,13 @@ inline Polygons minkowski(const Rings &rings, Span<Point> shape, FillRule rule) 
     return Polygons(handle);
 }
 
+inline Polygons erode(const Rings &rings, Span<Point> shape, FillRule rule) {
+    ::itree_polygons *handle = nullptr;
+    throw_unless_answered(::itree_erode(rings.points.data(), rings.points.size(), rings.ends.data(), rings.ends.size(),
+                                        shape.data(), shape.size(), static_cast<std::int32_t>(rule), &handle));
+    return Polygons(handle);
+}
+
 }  // namespace detail
 
 /// The polygons of the Minkowski sum of what is inside of the rings and a shape: of the points that one of the inside and one of
@@ -1293,6 +1300,26 @@ template <typename Items = detail::InBraces<Position>>
 [[nodiscard]] Polygons minkowski(const Items &rings, Span<Point> shape, FillRule rule, const Grid &grid) {
     const auto all = detail::rings_on(grid, rings);
     return detail::minkowski(all, shape, rule);
+}
+
+/// The polygons of what is left of the inside of the rings where a shape is taken along outside: of each point from which the whole
+/// shape lies inside. So what is inside shrinks by the shape on all sides, as is said at `itree_erode` of itree.h.
+///
+///     const auto within = itree::erode(fields, itree::circle(500, 64).corners, itree::FillRule::non_zero);
+///
+/// It takes what `minkowski` does, and throws what that does; `RangeFault` where a corner of the curve around what is outside, or of
+/// the shape turned by half a turn, is no point of 32 bits.
+template <typename Items = detail::InBraces<Point>>
+[[nodiscard]] Polygons erode(const Items &rings, Span<Point> shape, FillRule rule) {
+    const auto all = detail::rings_of(rings);
+    return detail::erode(all, shape, rule);
+}
+
+/// The same of positions, which are first rounded to the grid. The shape is one of the grid's units, and so is the answer.
+template <typename Items = detail::InBraces<Position>>
+[[nodiscard]] Polygons erode(const Items &rings, Span<Point> shape, FillRule rule, const Grid &grid) {
+    const auto all = detail::rings_on(grid, rings);
+    return detail::erode(all, shape, rule);
 }
 
 /// A convex polygon around the origin that stands for a circle.

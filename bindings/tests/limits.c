@@ -110,6 +110,7 @@ static int32_t call(int which) {
     case 17: status = itree_crop(&window, points, MANY, &end, 1, &chains); break;
     case 18: status = itree_minkowski(points, MANY, &end, 1, around, 4, ITREE_NON_ZERO, &polygons); break;
     case 19: return itree_circle(1000, MANY, NULL, 0, NULL, NULL);
+    case 20: status = itree_erode(points, MANY, &end, 1, around, 4, ITREE_NON_ZERO, &polygons); break;
     }
     const int has_handle = pairs != NULL || chains != NULL || polygons != NULL;
     itree_pairs_free(pairs);
@@ -118,7 +119,7 @@ static int32_t call(int which) {
     return has_handle == (status == ITREE_ANSWERED) ? status : -1;
 }
 
-enum { EACH = 9, CALLS = 20 };
+enum { EACH = 9, CALLS = 21 };
 
 static void checks_memory(void) {
     for (int which = 0; which < CALLS; which++) {

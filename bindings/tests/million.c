@@ -116,6 +116,9 @@ static void many_shapes(void) {
           itree_minkowski(corners, MANY, ends, SQUARES, square, 4, ITREE_NON_ZERO, &polygons) == ITREE_ANSWERED &&
               itree_polygons_points(polygons, NULL) == MANY);
     itree_polygons_free(polygons);
+    check("shrunk", itree_erode(corners, MANY, ends, SQUARES, square, 4, ITREE_NON_ZERO, &polygons) == ITREE_ANSWERED &&
+                        itree_polygons_points(polygons, NULL) == MANY);
+    itree_polygons_free(polygons);
 }
 
 /* A polygon of a million points to well-known binary and back. */

@@ -1,4 +1,4 @@
-/* Polygons that grow, from C beside a plain model, at faults, and with each request for memory refused in turn. */
+/* Polygons that grow and shrink, from C beside a plain model, at faults, and with each request for memory refused in turn. */
 #include <itree.h>
 #include <stdio.h>
 #include <string.h>
@@ -13,9 +13,23 @@ static const struct itree_point square[] = {{-1, -1}, {1, -1}, {1, 1}, {-1, 1}};
 static const struct itree_point field[] = {{0, 0}, {9, 0}, {9, 9}, {0, 9}};
 static const size_t one_ring[] = {4};
 
+/* A call by which polygons grow, or shrink, and whether they shrink. */
+struct door {
+    int32_t (*call)(const struct itree_point *, size_t, const size_t *, size_t, const struct itree_point *, size_t,
+                    int32_t, struct itree_polygons **);
+    int shrinks;
+};
+
+static const struct door grows = {itree_minkowski, 0}, shrinks = {itree_erode, 1};
+
+static int32_t by(const struct door *door, const struct itree_point *points, const size_t *ends, size_t rings,
+                  const struct itree_point *shape, size_t corners, struct itree_polygons **polygons) {
+    return door->call(points, rings ? ends[rings - 1] : 0, ends, rings, shape, corners, ITREE_NON_ZERO, polygons);
+}
+
 static int32_t grow(const struct itree_point *points, const size_t *ends, size_t rings, const struct itree_point *shape,
                     size_t corners, struct itree_polygons **polygons) {
-    return itree_minkowski(points, rings ? ends[rings - 1] : 0, ends, rings, shape, corners, ITREE_NON_ZERO, polygons);
+    return by(&grows, points, ends, rings, shape, corners, polygons);
 }
 
 /* Whether the polygons are one with so many rings, the first of which has the wanted points from whichever on. */
@@ -114,8 +128,167 @@ static void checks_rows(void) {
     }
 }
 
-/* Whether rectangles by chance, grown by one around the origin, cover the unit squares that they are to. */
-static int is_grown_right(int32_t rule) {
+/* Rings, a shape, and all the rings that are left of them, in so many polygons. */
+struct row_left {
+    const char *what;
+    struct itree_point points[12];
+    size_t ends[2], rings;
+    struct itree_point shape[8];
+    size_t corners;
+    struct itree_point wanted[12];
+    size_t wanted_ends[2], wanted_rings, wanted_polygons;
+};
+
+static const struct row_left rows_left[] = {
+    {"a square less a square",
+     {{0, 0}, {9, 0}, {9, 9}, {0, 9}},
+     {4},
+     1,
+     {{-1, -1}, {1, -1}, {1, 1}, {-1, 1}},
+     4,
+     {{1, 1}, {8, 1}, {8, 8}, {1, 8}},
+     {4},
+     1,
+     1},
+    {"a square less a rhomb",
+     {{0, 0}, {9, 0}, {9, 9}, {0, 9}},
+     {4},
+     1,
+     {{2, 0}, {0, 2}, {-2, 0}, {0, -2}},
+     4,
+     {{2, 2}, {7, 2}, {7, 7}, {2, 7}},
+     {4},
+     1,
+     1},
+    {"less a shape that lies aside",
+     {{0, 0}, {9, 0}, {9, 9}, {0, 9}},
+     {4},
+     1,
+     {{-1, -1}, {5, -1}, {-1, 5}},
+     3,
+     {{1, 1}, {4, 1}, {4, 4}, {1, 4}},
+     {4},
+     1,
+     1},
+    {"nothing is left of what is narrower",
+     {{0, 0}, {9, 0}, {9, 9}, {0, 9}},
+     {4},
+     1,
+     {{-5, -5}, {5, -5}, {5, 5}, {-5, 5}},
+     4,
+     {{0, 0}},
+     {0},
+     0,
+     0},
+    {"nor of what is as wide",
+     {{0, 0}, {9, 0}, {9, 2}, {0, 2}},
+     {4},
+     1,
+     {{-1, -1}, {1, -1}, {1, 1}, {-1, 1}},
+     4,
+     {{0, 0}},
+     {0},
+     0,
+     0},
+    {"a corridor of two opens, and two rooms are left",
+     {{0, 0}, {9, 0}, {9, 4}, {20, 4}, {20, 0}, {29, 0}, {29, 9}, {20, 9}, {20, 6}, {9, 6}, {9, 9}, {0, 9}},
+     {12},
+     1,
+     {{-1, -1}, {1, -1}, {1, 1}, {-1, 1}},
+     4,
+     {{1, 1}, {8, 1}, {8, 8}, {1, 8}, {21, 1}, {28, 1}, {28, 8}, {21, 8}},
+     {4, 8},
+     2,
+     2},
+    {"and one of three is left",
+     {{0, 0}, {9, 0}, {9, 4}, {20, 4}, {20, 0}, {29, 0}, {29, 9}, {20, 9}, {20, 7}, {9, 7}, {9, 9}, {0, 9}},
+     {12},
+     1,
+     {{-1, -1}, {1, -1}, {1, 1}, {-1, 1}},
+     4,
+     {{1, 1}, {8, 1}, {8, 5}, {21, 5}, {21, 1}, {28, 1}, {28, 8}, {21, 8}, {21, 6}, {8, 6}, {8, 8}, {1, 8}},
+     {12},
+     1,
+     1},
+    {"a hole becomes larger",
+     {{0, 0}, {9, 0}, {9, 9}, {0, 9}, {4, 4}, {4, 5}, {5, 5}, {5, 4}},
+     {4, 8},
+     2,
+     {{-1, -1}, {1, -1}, {1, 1}, {-1, 1}},
+     4,
+     {{1, 1}, {8, 1}, {8, 8}, {1, 8}, {3, 3}, {3, 6}, {6, 6}, {6, 3}},
+     {4, 8},
+     2,
+     1},
+    {"and reaches both sides",
+     {{0, 0}, {9, 0}, {9, 9}, {0, 9}, {1, 4}, {1, 5}, {8, 5}, {8, 4}},
+     {4, 8},
+     2,
+     {{-1, -1}, {1, -1}, {1, 1}, {-1, 1}},
+     4,
+     {{1, 1}, {8, 1}, {8, 3}, {1, 3}, {1, 6}, {8, 6}, {8, 8}, {1, 8}},
+     {4, 8},
+     2,
+     2},
+    {"a corner that turns right, less a rhomb",
+     {{0, 0}, {20, 0}, {20, 8}, {8, 8}, {8, 20}, {0, 20}},
+     {6},
+     1,
+     {{2, 0}, {0, 2}, {-2, 0}, {0, -2}},
+     4,
+     {{2, 2}, {18, 2}, {18, 6}, {8, 6}, {6, 8}, {6, 18}, {2, 18}},
+     {7},
+     1,
+     1},
+};
+
+/* Whether one of the rings has these points, from whichever on. */
+static int has_ring(const struct itree_polygons *polygons, const struct itree_point *wanted, size_t count) {
+    const struct itree_point *points;
+    const size_t *offsets;
+    itree_polygons_points(polygons, &points);
+    const size_t rings = itree_polygons_ring_offsets(polygons, &offsets) - 1;
+    for (size_t ring = 0; ring < rings; ring++) {
+        if (is_ring(points + offsets[ring], offsets[ring + 1] - offsets[ring], wanted, count)) return 1;
+    }
+    return 0;
+}
+
+static void checks_rows_left(void) {
+    for (size_t place = 0; place < sizeof rows_left / sizeof *rows_left; place++) {
+        const struct row_left *const row = &rows_left[place];
+        struct itree_polygons *polygons = NULL;
+        int ok =
+            by(&shrinks, row->points, row->ends, row->rings, row->shape, row->corners, &polygons) == ITREE_ANSWERED;
+        ok = ok && itree_polygons_polygon_offsets(polygons, NULL) == row->wanted_polygons + 1;
+        ok = ok && itree_polygons_ring_offsets(polygons, NULL) == row->wanted_rings + 1;
+        for (size_t ring = 0; ring < row->wanted_rings; ring++) {
+            const size_t from = ring ? row->wanted_ends[ring - 1] : 0;
+            ok = ok && has_ring(polygons, row->wanted + from, row->wanted_ends[ring] - from);
+        }
+        check(row->what, ok);
+        itree_polygons_free(polygons);
+    }
+}
+
+/* Whether the unit square at a point is of what rings become that grow, or shrink, by a rectangle: where its opposite there covers
+ * one that is inside, or where it covers none there that is outside. */
+static int is_covered(const struct door *door, const struct itree_point *points, const size_t *ends, size_t rings,
+                      int32_t rule, const struct itree_point *shape, int32_t x, int32_t y) {
+    const struct itree_point low = shape[0], high = shape[2];
+    const int32_t x0 = door->shrinks ? x + low.x : x - high.x, x1 = door->shrinks ? x + high.x : x - low.x;
+    const int32_t y0 = door->shrinks ? y + low.y : y - high.y, y1 = door->shrinks ? y + high.y : y - low.y;
+    for (int32_t i = x0; i <= x1; i++) {
+        for (int32_t j = y0; j <= y1; j++) {
+            const int is_inside = plain_is_inside(rule, plain_winding(points, ends, rings, i, j));
+            if (is_inside != door->shrinks) return !door->shrinks;
+        }
+    }
+    return door->shrinks;
+}
+
+/* Whether rectangles by chance, grown or shrunk by one around the origin, cover the unit squares that they are to. */
+static int is_right(const struct door *door, int32_t rule) {
     struct itree_point points[4 * MOST];
     size_t ends[MOST], count = (size_t)random_below(MOST + 1);
     const int32_t left = 1 + random_below(FAR), low = 1 + random_below(FAR), right = 1 + random_below(FAR),
@@ -129,21 +302,16 @@ static int is_grown_right(int32_t rule) {
         ends[ring] = 4 * ring + 4;
     }
     struct itree_polygons *polygons = NULL;
-    if (itree_minkowski(points, 4 * count, ends, count, shape, 4, rule, &polygons) != ITREE_ANSWERED) return 0;
-    const struct itree_point *grown;
+    if (door->call(points, 4 * count, ends, count, shape, 4, rule, &polygons) != ITREE_ANSWERED) return 0;
+    const struct itree_point *made;
     const size_t *offsets;
-    itree_polygons_points(polygons, &grown);
+    itree_polygons_points(polygons, &made);
     const size_t rings = itree_polygons_ring_offsets(polygons, &offsets) - 1;
     int ok = 1;
     for (int32_t x = -FAR - 1; x < SIDE + FAR; x++) {
         for (int32_t y = -FAR - 1; y < SIDE + FAR; y++) {
-            int wanted = 0;
-            for (int32_t i = x - right; i <= x + left; i++) {
-                for (int32_t j = y - high; j <= y + low; j++) {
-                    wanted = wanted || plain_is_inside(rule, plain_winding(points, ends, count, i, j));
-                }
-            }
-            ok = ok && plain_winding(grown, offsets + 1, rings, x, y) == wanted;
+            const int wanted = is_covered(door, points, ends, count, rule, shape, x, y);
+            ok = ok && plain_winding(made, offsets + 1, rings, x, y) == wanted;
         }
     }
     itree_polygons_free(polygons);
@@ -152,35 +320,37 @@ static int is_grown_right(int32_t rule) {
 
 static void checks_by_chance(void) {
     int ok = 1;
-    for (int32_t round = 0; round < 2000; round++) ok = ok && is_grown_right(round % 4);
+    for (int32_t round = 0; round < 2000; round++) ok = ok && is_right(&grows, round % 4);
     check("rectangles by rectangles, as the plain model", ok);
+    for (int32_t round = 0; round < 2000; round++) ok = ok && is_right(&shrinks, round % 4);
+    check("rectangles less rectangles, as the plain model", ok);
 }
 
-static void checks_faulty_pointers(void) {
+static void checks_faulty_pointers(const struct door *door) {
     uint64_t words[8] = {0};
     char *const odd = (char *)words + 1;
     struct itree_polygons *polygons = (void *)words;
-    check("no points to grow", itree_minkowski(NULL, 4, one_ring, 1, square, 4, 1, &polygons) == ITREE_POINTER);
-    check("no ends", itree_minkowski(field, 4, NULL, 1, square, 4, 1, &polygons) == ITREE_POINTER);
-    check("no shape", itree_minkowski(field, 4, one_ring, 1, NULL, 4, 1, &polygons) == ITREE_POINTER);
+    check("no points", door->call(NULL, 4, one_ring, 1, square, 4, 1, &polygons) == ITREE_POINTER);
+    check("no ends", door->call(field, 4, NULL, 1, square, 4, 1, &polygons) == ITREE_POINTER);
+    check("no shape", door->call(field, 4, one_ring, 1, NULL, 4, 1, &polygons) == ITREE_POINTER);
     check("points at an odd address",
-          itree_minkowski((void *)odd, 1, one_ring, 1, square, 4, 1, &polygons) == ITREE_POINTER);
+          door->call((void *)odd, 1, one_ring, 1, square, 4, 1, &polygons) == ITREE_POINTER);
     check("a shape at an odd address",
-          itree_minkowski(field, 4, one_ring, 1, (void *)odd, 4, 1, &polygons) == ITREE_POINTER);
+          door->call(field, 4, one_ring, 1, (void *)odd, 4, 1, &polygons) == ITREE_POINTER);
     check("a shape of more than there is",
-          itree_minkowski(field, 4, one_ring, 1, square, SIZE_MAX, 1, &polygons) == ITREE_POINTER);
+          door->call(field, 4, one_ring, 1, square, SIZE_MAX, 1, &polygons) == ITREE_POINTER);
     check("the handle stays as it was there", polygons == (void *)words);
-    check("no handle of what has grown", itree_minkowski(field, 4, one_ring, 1, square, 4, 1, NULL) == ITREE_POINTER);
-    check("null for no rings", itree_minkowski(NULL, 0, NULL, 0, square, 4, 1, &polygons) == ITREE_ANSWERED &&
+    check("no handle of what is made", door->call(field, 4, one_ring, 1, square, 4, 1, NULL) == ITREE_POINTER);
+    check("null for no rings", door->call(NULL, 0, NULL, 0, square, 4, 1, &polygons) == ITREE_ANSWERED &&
                                    itree_polygons_points(polygons, NULL) == 0);
     itree_polygons_free(polygons);
 }
 
 /* Whether this ends so, and there is no handle. */
-static int ends_so(const struct itree_point *points, const size_t *ends, const struct itree_point *shape,
-                   size_t corners, int32_t rule, int32_t wanted) {
+static int ends_so(const struct door *door, const struct itree_point *points, const size_t *ends,
+                   const struct itree_point *shape, size_t corners, int32_t rule, int32_t wanted) {
     struct itree_polygons *polygons = (void *)&polygons;
-    return itree_minkowski(points, 4, ends, 1, shape, corners, rule, &polygons) == wanted && polygons == NULL;
+    return door->call(points, 4, ends, 1, shape, corners, rule, &polygons) == wanted && polygons == NULL;
 }
 
 /* Shapes that are none. */
@@ -201,25 +371,55 @@ static const struct {
     {"a star", {{0, 9}, {-5, -7}, {9, 3}, {-9, 3}, {5, -7}}, 5},
 };
 
-static void checks_faults(void) {
+static void checks_faults(const struct door *door) {
     const size_t behind[] = {5};
-    const struct itree_point far[] = {{0, 0}, {INT32_MAX, 0}, {INT32_MAX, 9}, {0, 9}},
-                             low[] = {{0, INT32_MIN}, {9, INT32_MIN}, {9, 9}, {0, 9}};
     for (size_t place = 0; place < sizeof faulty_shapes / sizeof *faulty_shapes; place++) {
         const struct itree_point *const corners = faulty_shapes[place].corners;
         const size_t count = faulty_shapes[place].count;
-        check(faulty_shapes[place].what, ends_so(field, one_ring, corners, count, ITREE_NON_ZERO, ITREE_SHAPE));
-        check("a ring behind the points comes first", ends_so(field, behind, corners, count, 1, ITREE_LENGTHS));
-        check("and before that a rule that is none", ends_so(field, behind, corners, count, 4, ITREE_CHOICE) &&
-                                                         ends_so(field, behind, corners, count, -1, ITREE_CHOICE));
+        check(faulty_shapes[place].what, ends_so(door, field, one_ring, corners, count, ITREE_NON_ZERO, ITREE_SHAPE));
+        check("a ring behind the points comes first", ends_so(door, field, behind, corners, count, 1, ITREE_LENGTHS));
+        check("and before that a rule that is none",
+              ends_so(door, field, behind, corners, count, 4, ITREE_CHOICE) &&
+                  ends_so(door, field, behind, corners, count, -1, ITREE_CHOICE));
     }
-    check("what leaves 32 bits to the right", ends_so(far, one_ring, square, 4, 1, ITREE_RANGE));
-    check("and what leaves them below", ends_so(low, one_ring, square, 4, 1, ITREE_RANGE));
+}
+
+static void checks_range(void) {
+    const struct itree_point far[] = {{0, 0}, {INT32_MAX, 0}, {INT32_MAX, 9}, {0, 9}},
+                             low[] = {{0, INT32_MIN}, {9, INT32_MIN}, {9, 9}, {0, 9}};
+    check("what leaves 32 bits to the right", ends_so(&grows, far, one_ring, square, 4, 1, ITREE_RANGE));
+    check("and what leaves them below", ends_so(&grows, low, one_ring, square, 4, 1, ITREE_RANGE));
     struct itree_polygons *polygons = NULL;
     const struct itree_point nearly[] = {{0, 0}, {INT32_MAX - 1, 0}, {INT32_MAX - 1, 9}, {0, 9}};
     const struct itree_point wanted[] = {{-1, -1}, {INT32_MAX, -1}, {INT32_MAX, 10}, {-1, 10}};
     check("what comes up to them", grow(nearly, one_ring, 1, square, 4, &polygons) == ITREE_ANSWERED);
     check("is there", is_one(polygons, 1, wanted, 4));
+    itree_polygons_free(polygons);
+}
+
+static void checks_range_left(void) {
+    const int32_t least = INT32_MIN, most = INT32_MAX;
+    const struct itree_point all[] = {{least, least}, {most, least}, {most, most}, {least, most}};
+    const struct itree_point thin[] = {{most - 1, 0}, {most, 0}, {most, 9}, {most - 1, 9}};
+    const struct itree_point low[] = {{least + 1, 0}, {least + 9, 0}, {least + 9, 9}, {least + 1, 9}};
+    const struct itree_point one[] = {{1, 0}, {0, 1}, {-1, 0}, {0, -1}}, two[] = {{2, 0}, {0, 2}, {-2, 0}, {0, -2}};
+    const struct itree_point without[] = {{least, -1}, {1, -1}, {1, 1}, {least, 1}};
+    const struct itree_point with[] = {{least + 1, -1}, {1, -1}, {1, 1}, {least + 1, 1}};
+    const struct itree_point wanted[] = {{least + 1, least + 1},
+                                         {most - 1, least + 1},
+                                         {most - 1, most - 1},
+                                         {least + 1, most - 1}};
+    struct itree_polygons *polygons = NULL;
+    check("a side that moves out of 32 bits", ends_so(&shrinks, thin, one_ring, two, 4, 1, ITREE_RANGE));
+    check("one that moves up to their end", by(&shrinks, thin, one_ring, 1, one, 4, &polygons) == ITREE_ANSWERED &&
+                                                itree_polygons_points(polygons, NULL) == 0);
+    itree_polygons_free(polygons);
+    check("a shape with a corner that has no opposite", ends_so(&shrinks, low, one_ring, without, 4, 1, ITREE_RANGE));
+    check("one whose corners have", by(&shrinks, low, one_ring, 1, with, 4, &polygons) == ITREE_ANSWERED &&
+                                        itree_polygons_points(polygons, NULL) == 0);
+    itree_polygons_free(polygons);
+    check("all of 32 bits", by(&shrinks, all, one_ring, 1, one, 4, &polygons) == ITREE_ANSWERED);
+    check("shrinks by one", is_one(polygons, 1, wanted, 4));
     itree_polygons_free(polygons);
 }
 
@@ -283,7 +483,7 @@ static void checks_circles(void) {
     itree_polygons_free(polygons);
 }
 
-static void checks_refused(void) {
+static void checks_refused(const struct door *door) {
     enum { BARS = 12 };
     struct itree_point points[8 * BARS];
     size_t ends[2 * BARS], requests = 0;
@@ -301,21 +501,27 @@ static void checks_refused(void) {
     for (int32_t status = ITREE_REFUSED; status == ITREE_REFUSED; requests++) {
         polygons = (void *)points;
         refuse_after(requests);
-        status = grow(points, ends, 2 * BARS, square, 4, &polygons);
+        status = by(door, points, ends, 2 * BARS, square, 4, &polygons);
         refuse_after(SIZE_MAX);
         ok = ok && (status == ITREE_ANSWERED || (status == ITREE_REFUSED && polygons == NULL));
     }
-    check("each request for what grows is refused in turn", requests > 10 && ok);
+    check("each request is refused in turn", requests > 10 && ok);
     check("a lattice keeps its holes", itree_polygons_ring_offsets(polygons, NULL) == 1 + 1 + (BARS - 1) * (BARS - 1));
     itree_polygons_free(polygons);
 }
 
 int main(void) {
     checks_rows();
+    checks_rows_left();
     checks_by_chance();
-    checks_faulty_pointers();
-    checks_faults();
+    checks_faulty_pointers(&grows);
+    checks_faulty_pointers(&shrinks);
+    checks_faults(&grows);
+    checks_faults(&shrinks);
+    checks_range();
+    checks_range_left();
     checks_circles();
-    checks_refused();
+    checks_refused(&grows);
+    checks_refused(&shrinks);
     return told();
 }

@@ -1,4 +1,4 @@
-// Polygons that grow, from C++: by hand, at faults, and with refused memory.
+// Polygons that grow and shrink, from C++: by hand, at faults, and with refused memory.
 #include <itree.hpp>
 
 #include "counted.h"
@@ -48,6 +48,29 @@ void checks_grown() {
     check("positions by a shape of a grid's units", is_ring(rounded, {{-1, -1}, {3, -1}, {3, 3}, {-1, 3}}));
 }
 
+void checks_shrunk() {
+    const auto less = itree::erode(field, square, FillRule::non_zero);
+    check("a square less a square", is_ring(less, {{1, 1}, {8, 1}, {8, 8}, {1, 8}}));
+    const auto braces =
+        itree::erode({{{0, 0}, {9, 0}, {9, 9}, {0, 9}}}, {{-1, -1}, {5, -1}, {-1, 5}}, FillRule::even_odd);
+    check("rings in braces, less a shape that lies aside", is_ring(braces, {{1, 1}, {4, 1}, {4, 4}, {1, 4}}));
+    const PointRings holed{field[0], {{4, 4}, {4, 5}, {5, 5}, {5, 4}}};
+    const auto larger = itree::erode(holed, square, FillRule::non_zero);
+    check("a hole becomes larger", larger.size() == 1 && larger[0].size() == 2 && larger.points().size() == 8);
+    const PointRings rooms{
+        {{0, 0}, {9, 0}, {9, 4}, {20, 4}, {20, 0}, {29, 0}, {29, 9}, {20, 9}, {20, 6}, {9, 6}, {9, 9}, {0, 9}}};
+    const auto apart = itree::erode(rooms, square, FillRule::non_zero);
+    check("a corridor opens", apart.size() == 2 && apart.points().size() == 8);
+    const auto again = itree::erode(less, square, FillRule::positive);
+    check("an answer shrinks again", is_ring(again, {{2, 2}, {7, 2}, {7, 7}, {2, 7}}));
+    check("until nothing is left",
+          itree::erode(field, {{-5, -5}, {5, -5}, {5, 5}, {-5, 5}}, FillRule::non_zero).empty());
+    check("nothing stays nothing", itree::erode(PointRings(), square, FillRule::non_zero).empty());
+    const std::vector<std::vector<itree::Position>> half{{{0, 0}, {2.5, 0}, {2.5, 2.5}, {0, 2.5}}};
+    const auto rounded = itree::erode(half, square, FillRule::non_zero, itree::Grid({0, 0, -2}));
+    check("positions less a shape of a grid's units", is_ring(rounded, {{1, 1}, {9, 1}, {9, 9}, {1, 9}}));
+}
+
 void checks_circles() {
     const auto circle = itree::circle(1000, 64);
     check("a circle", circle.corners.size() == 64 && circle.inner < 1000 && circle.inner > 990);
@@ -63,43 +86,55 @@ void checks_circles() {
     refuse_after(SIZE_MAX);
 }
 
-void checks_faults() {
-    const auto grow = [](const PointRings &rings, itree::Span<itree::Point> shape, FillRule rule) {
-        return itree::minkowski(rings, shape, rule);
-    };
+/// What a call by which polygons grow, or shrink, throws of faulty shapes and rings.
+template <typename By>
+void checks_faults(const By &by) {
     check("a shape that runs clockwise",
           thrown<itree::ShapeFault>([&] {
-              return grow(field, {{-1, -1}, {-1, 1}, {1, 1}, {1, -1}}, FillRule::non_zero);
-          }) == "a shape by which polygons grow isn't convex around the origin");
+              return by(field, {{-1, -1}, {-1, 1}, {1, 1}, {1, -1}}, FillRule::non_zero);
+          }) == "a shape by which polygons grow or shrink isn't convex around the origin");
     check("a rule that is none comes before", thrown<std::invalid_argument>([&] {
-                                                  return grow(field, {}, static_cast<FillRule>(4));
+                                                  return by(field, {}, static_cast<FillRule>(4));
                                               }) == "there is no such rule or operation");
-    const PointRings far{{{0, 0}, {INT32_MAX, 0}, {0, 9}}};
-    check("what leaves 32 bits", thrown<itree::RangeFault>([&] { return grow(far, square, FillRule::non_zero); }) ==
-                                     "what has grown leaves 32 bits");
     const std::size_t falling[] = {3, 2};
-    check("faulty rings to grow",
-          thrown<std::invalid_argument>([&] {
-              return itree::minkowski(itree::Rings{field[0], falling}, square, FillRule::non_zero);
-          }) == "a ring stops before it begins, or behind the points");
+    check("faulty rings", thrown<std::invalid_argument>([&] {
+                              return by(itree::Rings{field[0], falling}, square, FillRule::non_zero);
+                          }) == "a ring stops before it begins, or behind the points");
     std::size_t requests = 0;
     for (bool refused = true; refused; requests++) {
         refuse_after(requests);
         try {
-            (void)itree::minkowski(field, square, FillRule::non_zero);
+            (void)by(field, square, FillRule::non_zero);
             refused = false;
         } catch (const std::bad_alloc &) {
         }
         refuse_after(SIZE_MAX);
     }
-    check("refused memory is thrown for what grows", requests > 4);
+    check("refused memory is thrown", requests > 4);
+}
+
+void checks_range() {
+    const std::string words = "what grows or shrinks leaves 32 bits";
+    const PointRings far{{{0, 0}, {INT32_MAX, 0}, {0, 9}}},
+        thin{{{INT32_MAX - 1, 0}, {INT32_MAX, 0}, {INT32_MAX, 9}, {INT32_MAX - 1, 9}}};
+    const auto grown = [&] { return itree::minkowski(far, square, FillRule::non_zero); };
+    const auto left = [&] { return itree::erode(thin, {{-2, -2}, {2, -2}, {2, 2}, {-2, 2}}, FillRule::non_zero); };
+    check("what leaves 32 bits", thrown<itree::RangeFault>(grown) == words);
+    check("a side that moves out of them", thrown<itree::RangeFault>(left) == words);
 }
 
 }  // namespace
 
 int main() {
     checks_grown();
+    checks_shrunk();
     checks_circles();
-    checks_faults();
+    checks_faults([](const auto &rings, itree::Span<itree::Point> shape, FillRule rule) {
+        return itree::minkowski(rings, shape, rule);
+    });
+    checks_faults([](const auto &rings, itree::Span<itree::Point> shape, FillRule rule) {
+        return itree::erode(rings, shape, rule);
+    });
+    checks_range();
     return told();
 }

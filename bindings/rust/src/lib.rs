@@ -33,7 +33,7 @@ pub use layers::{
     Border, Groups, Layer, LayerBuf, LayerFault, Lines, Overlays, OverlaysIter, Pieces, Side,
 };
 pub use limits::{limited_to, memory_peak, stopped_by};
-pub use offsets::{circle, minkowski, Circle, CircleFault, MinkowskiFault};
+pub use offsets::{circle, erode, minkowski, Circle, CircleFault, MinkowskiFault};
 pub use tiles::{crop, join, overlay_in, overlay_threads, whole_window, Tile, TileFault, Window};
 pub use wkb::{read_wkb, wkb_corners, wkb_srid, Shapes, WkbFault, WkbFaultKind};
 
@@ -825,6 +825,17 @@ mod calls {
         ) -> i32;
 
         pub fn itree_minkowski(
+            points: *const Point,
+            point_count: usize,
+            ring_ends: *const usize,
+            ring_count: usize,
+            shape: *const Point,
+            corner_count: usize,
+            rule: i32,
+            polygons: *mut *mut Handle,
+        ) -> i32;
+
+        pub fn itree_erode(
             points: *const Point,
             point_count: usize,
             ring_ends: *const usize,

@@ -1,4 +1,4 @@
-//! Polygons that grow.
+//! Polygons that grow and shrink.
 
 use crate::{answered, calls, polygons_of, FillRule, Point, Polygons, Refused, Rings, REFUSED};
 use std::collections::TryReserveError;
@@ -6,7 +6,7 @@ use std::error::Error;
 use std::fmt::{self, Display, Formatter};
 use std::ptr;
 
-/// Why polygons don't grow.
+/// Why polygons don't grow, or don't shrink.
 #[derive(Clone, Copy, Debug, PartialEq, Eq, Hash)]
 pub enum MinkowskiFault {
     /// Memory was refused, or the call was stopped.
@@ -15,7 +15,7 @@ pub enum MinkowskiFault {
     Lengths,
     /// The shape isn't convex around the origin.
     Shape,
-    /// What has grown leaves 32 bits.
+    /// What grows or shrinks leaves 32 bits.
     Range,
 }
 
@@ -24,8 +24,13 @@ impl Display for MinkowskiFault {
         match self {
             MinkowskiFault::Refused => write!(f, "{REFUSED}"),
             MinkowskiFault::Lengths => write!(f, "a ring stops before it begins, or behind the points"),
-            MinkowskiFault::Shape => write!(f, "a shape by which polygons grow isn't convex around the origin"),
-            MinkowskiFault::Range => write!(f, "what has grown leaves 32 bits"),
+            MinkowskiFault::Shape => {
+                write!(
+                    f,
+                    "a shape by which polygons grow or shrink isn't convex around the origin"
+                )
+            }
+            MinkowskiFault::Range => write!(f, "what grows or shrinks leaves 32 bits"),
         }
     }
 }
@@ -47,10 +52,10 @@ impl From<Refused> for MinkowskiFault {
 ///
 /// What is inside is bounded by rings first, as those of `overlay_rings` of it and nothing: exactly where it moves no edge. Of what
 /// these bound the polygons wind once around each point of the sum, and not at all around any other, if each edge of the curve
-/// around the sum runs along an axis, or isn't within half a unit, on both axes, of the point, and none goes through it. Around no
-/// point do they wind more often. The curve is each edge of those rings, moved by the corner of the shape that lies furthest to the
-/// right of it, and what joins these at corners: around one that turns left the sides of the shape, and at one that turns right the
-/// ways to the corner itself and on.
+/// around the sum isn't moved, or runs along an axis, or isn't within half a unit, on both axes, of the point, and none goes through
+/// it. Around no point do they wind more often. The curve is each edge of those rings, moved by the corner of the shape that lies
+/// furthest to the right of it, and what joins these at corners: around one that turns left the sides of the shape, and at one that
+/// turns right the ways to the corner itself and on, or nothing where the same corner of the shape moves both edges.
 ///
 /// `MinkowskiFault::Lengths` comes where a ring stops before it begins or behind the points; else `MinkowskiFault::Shape`, where the
 /// shape isn't such a polygon; else `MinkowskiFault::Range`, where a corner of the curve is no point of 32 bits.
@@ -79,6 +84,49 @@ pub fn minkowski(rings: Rings<'_>, shape: &[Point], rule: FillRule) -> Result<Po
             &mut handle,
         )
     };
+    made_by(status, handle)
+}
+
+/// The polygons of what is left of the inside of the rings where a shape is taken along outside: of each point from which the whole
+/// shape lies inside. So what is inside shrinks by the shape on all sides; narrow parts go, polygons come apart there, and holes
+/// become larger.
+///
+/// Rings and shape are as `minkowski` takes them. The polygons wind once around each point that is left, and not at all around any
+/// other, as those of `minkowski` do of the sum: the curve is that of what bounds the inside, the other way round, and of the shape
+/// turned by half a turn.
+///
+/// The faults are those of `minkowski`, in the same order; `MinkowskiFault::Range` comes where a corner of that curve, or of the
+/// shape turned, is no point of 32 bits.
+///
+/// ```
+/// use itree::{erode, FillRule, Point, Rings};
+///
+/// let points = [(0, 0), (9, 0), (9, 9), (0, 9)].map(Point::from);
+/// let field = Rings { points: &points, ends: &[4] };
+/// let shape = [(-2, -2), (2, -2), (2, 2), (-2, 2)].map(Point::from);
+/// let within = erode(field, &shape, FillRule::NonZero).unwrap();
+/// assert_eq!(within.polygon(0).outer(), [(2, 2), (7, 2), (7, 7), (2, 7)].map(Point::from));
+/// ```
+pub fn erode(rings: Rings<'_>, shape: &[Point], rule: FillRule) -> Result<Polygons, MinkowskiFault> {
+    let mut handle = ptr::null_mut();
+    // SAFETY: each pointer and length are those of a slice, and the last is of a value of this call.
+    let status = unsafe {
+        calls::itree_erode(
+            rings.points.as_ptr(),
+            rings.points.len(),
+            rings.ends.as_ptr(),
+            rings.ends.len(),
+            shape.as_ptr(),
+            shape.len(),
+            rule as i32,
+            &mut handle,
+        )
+    };
+    made_by(status, handle)
+}
+
+/// What the status and the handle of polygons that grow, or that shrink, tell.
+fn made_by(status: i32, handle: *mut calls::Handle) -> Result<Polygons, MinkowskiFault> {
     match status {
         calls::LENGTHS => Err(MinkowskiFault::Lengths),
         calls::SHAPE => Err(MinkowskiFault::Shape),

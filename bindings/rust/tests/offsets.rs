@@ -1,6 +1,6 @@
-//! Polygons that grow: by hand, at faults, and with each request for memory refused in turn.
+//! Polygons that grow and shrink: by hand, at faults, and with each request for memory refused in turn.
 
-use itree::{circle, minkowski, CircleFault, FillRule, MinkowskiFault, Point, Rings};
+use itree::{circle, erode, minkowski, CircleFault, FillRule, MinkowskiFault, Point, Polygons, Rings};
 use refuse::granted;
 
 mod refuse;
@@ -16,9 +16,17 @@ fn rectangle(x0: i32, y0: i32, x1: i32, y1: i32) -> [Point; 4] {
     [(x0, y0), (x1, y0), (x1, y1), (x0, y1)].map(Point::from)
 }
 
-/// The rings of all polygons, each from its least point on.
+/// A call by which polygons grow, or shrink.
+type By = fn(Rings<'_>, &[Point], FillRule) -> Result<Polygons, MinkowskiFault>;
+
+/// The rings of all polygons that have grown, each from its least point on.
 fn rings_of(points: &[Point], ends: &[usize], shape: &[Point]) -> Vec<Vec<Point>> {
-    let polygons = minkowski(Rings { points, ends }, shape, FillRule::NonZero).unwrap();
+    rings_by(minkowski, points, ends, shape)
+}
+
+/// The rings of all polygons that such a call makes, each from its least point on.
+fn rings_by(by: By, points: &[Point], ends: &[usize], shape: &[Point]) -> Vec<Vec<Point>> {
+    let polygons = by(Rings { points, ends }, shape, FillRule::NonZero).unwrap();
     let from_least = |ring: &[Point]| {
         let least = (0..ring.len()).min_by_key(|place| ring[*place]).unwrap();
         [&ring[least..], &ring[..least]].concat()
@@ -49,18 +57,72 @@ fn grows_by_a_shape() {
 }
 
 #[test]
-fn tells_faulty_shapes_and_rings() {
+fn shrinks_by_a_shape() {
     let field = rectangle(0, 0, 9, 9);
-    let call = |points, ends, shape| {
-        let made = minkowski(Rings { points, ends }, shape, FillRule::EvenOdd);
-        made.map(|polygons| polygons.len())
+    let left_of = |points: &[Point], ends: &[usize], shape: &[Point]| rings_by(erode, points, ends, shape);
+    assert_eq!(left_of(&field, &[4], &SQUARE), [rectangle(1, 1, 8, 8)]);
+    let aside = [(-1, -1), (5, -1), (-1, 5)].map(Point::from);
+    assert_eq!(left_of(&field, &[4], &aside), [rectangle(1, 1, 4, 4)]);
+    assert!(left_of(&field, &[4], &rectangle(-5, -5, 5, 5)).is_empty());
+    let rooms = [
+        (0, 0),
+        (9, 0),
+        (9, 4),
+        (20, 4),
+        (20, 0),
+        (29, 0),
+        (29, 9),
+        (20, 9),
+        (20, 6),
+        (9, 6),
+        (9, 9),
+        (0, 9),
+    ];
+    let mut apart = left_of(&rooms.map(Point::from), &[12], &SQUARE);
+    apart.sort();
+    assert_eq!(apart, [rectangle(1, 1, 8, 8), rectangle(21, 1, 28, 8)]);
+    let mut hole = rectangle(4, 4, 5, 5);
+    hole.reverse();
+    let mut larger = rectangle(3, 3, 6, 6);
+    larger[1..].reverse();
+    let rings = left_of(&[field, hole].concat(), &[4, 8], &SQUARE);
+    assert_eq!(rings, [rectangle(1, 1, 8, 8), larger]);
+    assert!(left_of(&[], &[], &SQUARE).is_empty());
+    let thin = rectangle(i32::MAX - 1, 0, i32::MAX, 9);
+    let call = |shape: &[Point]| {
+        let rings = Rings {
+            points: &thin,
+            ends: &[4],
+        };
+        erode(rings, shape, FillRule::NonZero).map(|polygons| polygons.len())
     };
+    let rhomb = |size| [(size, 0), (0, size), (-size, 0), (0, -size)].map(Point::from);
+    assert_eq!(call(&rhomb(2)), Err(MinkowskiFault::Range));
+    assert_eq!(call(&rectangle(i32::MIN, -1, 1, 1)), Err(MinkowskiFault::Range));
+    assert_eq!(call(&rhomb(1)), Ok(0));
+}
+
+/// Faulty shapes and rings are told by such a call.
+fn tells_faults(by: By) {
+    let field = rectangle(0, 0, 9, 9);
+    let call =
+        |points, ends, shape| by(Rings { points, ends }, shape, FillRule::EvenOdd).map(|polygons| polygons.len());
     let clockwise = [(-1, -1), (-1, 1), (1, 1), (1, -1)].map(Point::from);
     let aside = [(-1, 0), (1, 0), (0, 1)].map(Point::from);
     for shape in [&clockwise[..], &aside, &SQUARE[..2], &[]] {
         assert_eq!(call(&field, &[4], shape), Err(MinkowskiFault::Shape), "{shape:?}");
         assert_eq!(call(&field, &[5], shape), Err(MinkowskiFault::Lengths), "{shape:?}");
     }
+}
+
+#[test]
+fn tells_faulty_shapes_and_rings() {
+    tells_faults(minkowski);
+    tells_faults(erode);
+    let call = |points, ends, shape| {
+        let made = minkowski(Rings { points, ends }, shape, FillRule::EvenOdd);
+        made.map(|polygons| polygons.len())
+    };
     let far = rectangle(0, 0, i32::MAX, 9);
     assert_eq!(call(&far, &[4], &SQUARE), Err(MinkowskiFault::Range));
     assert_eq!(call(&rectangle(0, 0, i32::MAX - 1, 9), &[4], &SQUARE), Ok(1));
@@ -72,9 +134,9 @@ fn tells_faulty_shapes_and_rings() {
         ),
         (
             MinkowskiFault::Shape,
-            "a shape by which polygons grow isn't convex around the origin",
+            "a shape by which polygons grow or shrink isn't convex around the origin",
         ),
-        (MinkowskiFault::Range, "what has grown leaves 32 bits"),
+        (MinkowskiFault::Range, "what grows or shrinks leaves 32 bits"),
     ] {
         assert_eq!(fault.to_string(), text);
     }
@@ -122,12 +184,14 @@ fn is_refused_growth_where_memory_is() {
         points: &points,
         ends: &ends,
     };
-    let call = || minkowski(rings, &SQUARE, FillRule::NonZero);
-    let mut requests = 0;
-    while let Err(fault) = granted(requests, call) {
-        assert_eq!(fault, MinkowskiFault::Refused);
-        requests += 1;
+    for by in [minkowski as By, erode] {
+        let call = || by(rings, &SQUARE, FillRule::NonZero);
+        let mut requests = 0;
+        while let Err(fault) = granted(requests, call) {
+            assert_eq!(fault, MinkowskiFault::Refused);
+            requests += 1;
+        }
+        assert!(requests > 10, "{requests} requests");
+        assert_eq!(call().unwrap().polygon(0).holes().count(), 11 * 11);
     }
-    assert!(requests > 10, "{requests} requests");
-    assert_eq!(call().unwrap().polygon(0).holes().count(), 11 * 11);
 }

@@ -31,6 +31,7 @@ pub mod raw;
 pub mod shapes;
 pub mod shapes_read;
 pub mod shapes_written;
+pub mod shrunk;
 pub mod snapped;
 pub mod status;
 pub mod tiled;
