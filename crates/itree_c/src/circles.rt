@@ -15,8 +15,9 @@ use std::alloc::Global;
 /// `inner`: no side is nearer to the origin. Its corners are written where there is room for as many; where there is none they are
 /// counted alone.
 ///
-/// The status is `ANSWERED` (0); `CHOICE` (5) where the radius is below 1 or `most` below 4; `LENGTHS` (3) where there is other room:
-/// then `count` and `inner` are written; or `REFUSED` (1) where memory was refused. What is written is said at `circle` of `offset`.
+/// The status is `ANSWERED` (0); `CHOICE` (5) where the radius is below 1 or `most` below 4; `LENGTHS` (3) where there is other
+/// room: then `count` and `inner` are written; or `REFUSED` (1) where memory was refused. What is written is said at `circle` of
+/// `offset`.
 #[unsafe(no_mangle)]
 pub extern "C" fn itree_circle(
     alloc: Global,

@@ -24,9 +24,9 @@ use std::alloc::Global;
 /// The status is `ANSWERED` (0), and then the caller owns the handle and gives it to `itree_polygons_free` once; or
 /// `REFUSED` (1) where memory was refused, `LENGTHS` (3) where a ring stops before it begins or behind the points, `CHOICE` (5)
 /// where no rule has the number, `SHAPE` (12) where the shape isn't convex around the origin, `RANGE` (13) where a corner of the
-/// curve around what is outside, or of the shape turned by half a turn, is no point of 32 bits: then null is written, and all memory
-/// has been given back. At `CHOICE` nothing else is looked at, and at `LENGTHS` the shape isn't. What the polygons are is said at
-/// `erode` of `offset`.
+/// curve around what is outside, or of the shape turned by half a turn, is no point of 32 bits: then null is written, and all
+/// memory has been given back. At `CHOICE` nothing else is looked at, and at `LENGTHS` the shape isn't. What the polygons are is
+/// said at `erode` of `offset`.
 #[unsafe(no_mangle)]
 pub unsafe extern "C" fn itree_erode<'a>(
     alloc: Global,

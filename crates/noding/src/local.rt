@@ -85,7 +85,8 @@ fn nodes_of_edges<A: Allocator + Copy>(alloc: A, edges: &[Edge]) -> Result<Vec<S
     Ok(nodes)
 }
 
-// The same by a sweep over columns. It tells which ends lie on edges, too: where no edges cross but at ends, nothing else is a node.
+// The same by a sweep over columns. It tells which ends lie on edges, too: where no edges cross but at ends, nothing else is a
+// node.
 fn nodes_by_columns<A: Allocator + Copy>(alloc: A, edges: &[Edge]) -> Result<Vec<Stop, A>, Refusal>
     ensures ok { IfOk result (λ stops. AreNodeStops edges.now stops.items) }
     ensures refused { IfErr result (λ cause. cause ≡ OutOfMemory) }

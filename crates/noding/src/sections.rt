@@ -18,11 +18,12 @@ use std::alloc::{AllocError, Allocator};
 // An edge is cut into two to the power of so many sections at most.
 const MOST_BITS: u32 = 6;
 
-// An edge whose box is likely to have fewer than two to the power of so many points isn't cut. With as many, the sections take as long
-// as the whole.
+// An edge whose box is likely to have fewer than two to the power of so many points isn't cut. With as many, the sections take as
+// long as the whole.
 const LEAST_BITS: u32 = 8;
 
-// With so many bits of likely points fewer there are as many sections as points in each. A section takes as long as some eight points.
+// With so many bits of likely points fewer there are as many sections as points in each. A section takes as long as some eight
+// points.
 const BITS_LESS: u32 = 3;
 
 /// A section of the edge at this place: what of it lies in the box of the chord.
@@ -55,8 +56,8 @@ impl Meets<Point> for Section {
     }
 }
 
-/// Sections of all edges, in which all lies that each of them passes. The longer an edge is, and the closer the points lie, the more
-/// sections it has.
+/// Sections of all edges, in which all lies that each of them passes. The longer an edge is, and the closer the points lie, the
+/// more sections it has.
 pub fn sections_of<A: Allocator>(
     alloc: A,
     edges: &[Edge],

@@ -25,8 +25,8 @@ IsOfPaths paths point = (path : List Point) × Contains paths path × IsOfPath p
 abbrev pub shape_at : List Point → Point → List Edge
 shape_at corners point = map (moved_edge point) (sides corners)
 
--- The parallelogram along an edge: the edge moved by the corner that lies furthest to the right of it, and back moved by the one that
--- lies furthest to the left.
+-- The parallelogram along an edge: the edge moved by the corner that lies furthest to the right of it, and back moved by the one
+-- that lies furthest to the left.
 abbrev pub along : List Point → Edge → List Edge
 along corners edge =
     moved_edge (furthest corners edge) edge

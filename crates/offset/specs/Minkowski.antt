@@ -19,10 +19,10 @@ use Rattle.offset.specs.Sum.{IsOfErosion, IsOfSum}
 use Rattle.offset.specs.declared.fault.MinkowskiFault.{MinkowskiFault}
 use Rattle.offset.specs.declared.fault.MinkowskiFault.TheVariants.{Lengths, Shape, Range, OutOfMemory}
 
--- Polygons around what is inside of closed edges, by the rule. Their rings visit no point twice, and have three points at least; outer ones run
--- counterclockwise, with an area above 0, and holes clockwise, with one below 0. At every point they wind once where it is inside
--- of the pieces that the edges are broken into, and else not at all: so as with the edges, if each edge isn't moved among all, or
--- runs along an axis, or isn't near the point.
+-- Polygons around what is inside of closed edges, by the rule. Their rings visit no point twice, and have three points at least;
+-- outer ones run counterclockwise, with an area above 0, and holes clockwise, with one below 0. At every point they wind once where
+-- it is inside of the pieces that the edges are broken into, and else not at all: so as with the edges, if each edge isn't moved
+-- among all, or runs along an axis, or isn't near the point.
 pub record IsWound (rule : FillRule) (edges : List Edge) (polygons : List (List (List Point))) : Type 0 where
   pub each : All IsRing (rings_of polygons)
   pub three_points : All (λ ring. 3 ≤ length ring) (rings_of polygons)
@@ -83,8 +83,8 @@ IsSumFault rule edges corners Shape = ⊥
 IsSumFault rule edges corners Range = (rings : List (List Point)) × IsBoundary rule Union (real_edges edges) [] rings × (¬ (All IsIn32Bits (raw_edges corners rings)))
 IsSumFault rule edges corners OutOfMemory = ⊤
 
--- Why the raw curve within wasn't made: a corner of it, or of the shape turned by half a turn, is no point of 32 bits, or memory was
--- refused.
+-- Why the raw curve within wasn't made: a corner of it, or of the shape turned by half a turn, is no point of 32 bits, or memory
+-- was refused.
 abbrev pub IsErosionFault : FillRule → List Edge → List Point → MinkowskiFault → Type 0
 IsErosionFault rule edges corners Lengths = ⊥
 IsErosionFault rule edges corners Shape = ⊥

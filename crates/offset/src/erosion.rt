@@ -32,8 +32,8 @@ use std::alloc::{AllocError, Allocator};
 /// The shape is a convex polygon with the origin inside, counterclockwise (`is_convex_around_origin`). It is the opposite of the
 /// shape that what is outside grows by.
 ///
-/// The polygons lie where the raw curve of what bounds the inside, the other way round, and of the shape turned by half a turn winds
-/// below 0.
+/// The polygons lie where the raw curve of what bounds the inside, the other way round, and of the shape turned by half a turn
+/// winds below 0.
 ///
 /// `Lengths` comes where the ends of the polygons don't rise or go behind the points, and nothing else is done then. Else `Shape`
 /// comes where the shape isn't one. Else `Range` comes where a corner of that curve is no point of 32 bits, or of the shape turned

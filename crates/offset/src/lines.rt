@@ -35,8 +35,8 @@ use std::alloc::Allocator;
 /// moved by the corner of the shape that lies furthest to the right of it, and the edge moved by that furthest to the left.
 ///
 /// `Lengths` comes where the ends of the paths don't rise or go behind the points, and nothing else is done then. Else `Shape`
-/// comes where the shape isn't one. Else `Range` comes where a corner of these shapes and parallelograms is no point of 32 bits, and
-/// `OutOfMemory` where memory was refused. After any fault `out` is as it was. The memory is that of `out`.
+/// comes where the shape isn't one. Else `Range` comes where a corner of these shapes and parallelograms is no point of 32 bits,
+/// and `OutOfMemory` where memory was refused. After any fault `out` is as it was. The memory is that of `out`.
 pub fn grow_lines<A: Allocator + Copy>(
     lines: Rings,
     shape: &[Point],

@@ -21,8 +21,8 @@ use plane::meet::has_point;
 use plane::point::Point;
 use std::alloc::{AllocError, Allocator};
 
-/// Whether each of the crossings is at an end of one of its edges, and lies on both. Then no edge is moved, and no point but ends of
-/// edges is hot.
+/// Whether each of the crossings is at an end of one of its edges, and lies on both. Then no edge is moved, and no point but ends
+/// of edges is hot.
 pub fn are_at_ends(edges: &[Edge], crossings: &[Crossing]) -> bool
     requires { All (λ crossing. (crossing.one < length edges.now) × (crossing.other < length edges.now)) crossings.now }
     ensures { OnTrue result (All (LiesAtEnd edges.now) crossings.now) }

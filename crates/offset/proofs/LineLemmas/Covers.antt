@@ -1,5 +1,5 @@
--- What some point of an edge and some point of the shape add up to lies in the shape at one of its ends, or in the parallelogram along
--- it.
+-- What some point of an edge and some point of the shape add up to lies in the shape at one of its ends, or in the parallelogram
+-- along it.
 use Rattle.std.proofs.Common.{◌≡◌, ◌≢◌, ◌⊎◌, inl, inr, ℕ, ◌+◌, ◌-◌, ◌*◌, ◌<◌, ◌≤◌, ℤ, pos, ◌+ℤ◌, ◌-ℤ◌, ◌*ℤ◌, ◌≤ℤ◌, ◌<ℤ◌, List, [], ◌∷◌, refl, ap, ap₂, subst, sym, ◌∙◌, arith}
 use Rattle.std.specs.List.{All, Contains}
 use Rattle.std.proofs.Math.Nat.{mul-pos}

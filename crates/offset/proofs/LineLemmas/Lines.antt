@@ -1,5 +1,5 @@
--- The shapes at the points of paths and the parallelograms along their edges wind around the points of the sum of these paths and the
--- shape, and around no others.
+-- The shapes at the points of paths and the parallelograms along their edges wind around the points of the sum of these paths and
+-- the shape, and around no others.
 use Rattle.std.proofs.Common.{◌≡◌, ◌≢◌, ◌⊎◌, inl, inr, ⊎_elim, ℕ, zero, suc, ◌*◌, ℤ, pos, ◌+ℤ◌, ◌-ℤ◌, ◌*ℤ◌, ◌≤ℤ◌, ◌<ℤ◌, List, [], ◌∷◌, ◌++◌, refl, ap, ap₂, subst, sym, ◌∙◌, arith}
 use Rattle.std.specs.List.{All, Contains, flat_map}
 use Rattle.std.proofs.lemmas.Int.{by_lt_z, ints}

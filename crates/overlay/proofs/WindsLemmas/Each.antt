@@ -1,5 +1,5 @@
--- Edges that wind once around a point or not at all: some of them do by themselves, where each leftwards edge is one of these exactly
--- if the edge just below it is.
+-- Edges that wind once around a point or not at all: some of them do by themselves, where each leftwards edge is one of these
+-- exactly if the edge just below it is.
 use Rattle.std.proofs.Common.{◌≡◌, ◌⊎◌, inl, inr, ℕ, ◌*◌, ◌<◌, ℤ, pos, negsuc, ◌+ℤ◌, ◌*ℤ◌, ◌≤ℤ◌, ◌<ℤ◌, Bool, true, false, not, ◌&&◌, cond, List, get_or, refl, ap, ap₂, sym, subst, ◌∙◌, arith}
 use Rattle.std.specs.Int.{int_div_euclid}
 use Rattle.std.specs.Int.Signed.{lt_z}
