@@ -18,7 +18,8 @@ use Rattle.plane.specs.Meet.Kinds.{HasPoint}
 use Rattle.plane.specs.Pairs.Pairs.{ArePairsBetween, PairBetween}
 use Rattle.plane.proofs.GainsLemmas.{gained-all, gains-join, gains-same, held-at, place-of}
 use Rattle.plane.proofs.MeetLemmas.Along.{same_or_apart}
-use Rattle.plane.proofs.MeetingLemmas.ColumnPairs.{mapped_at, slice_get-behind}
+use Rattle.plane.proofs.MeetingLemmas.ColumnPairs.{slice_get-behind}
+use Rattle.plane.proofs.PairsLemmas.Compared.{mapped_at}
 use Rattle.plane.proofs.MeetingLemmas.Crossing.{reaches-inside}
 use Rattle.plane.proofs.PointLemmas.{whole_point}
 use Rattle.noding.specs.Chains.{IsEnd, IsHot, Passes}

@@ -5,7 +5,7 @@ use Rattle.std.specs.List.{All, AllPairs, Contains, slice_get}
 use Rattle.std.proofs.lemmas.Bool.{lt-ltb, ltb-true}
 use Rattle.std.proofs.lemmas.List.{get_or-append_right, length-append, length-map}
 use Rattle.std.proofs.lemmas.List.Elements.{All-append, Contains-append_left, Contains-append_right, Contains-get_or}
-use Rattle.std.proofs.lemmas.Option.{get_or_from_slice_get, same_Some, slice_get-get_or, slice_get-map, slice_get_within}
+use Rattle.std.proofs.lemmas.Option.{get_or_from_slice_get, same_Some, slice_get-get_or, slice_get_within}
 use Rattle.i_tree.proofs.RbLemmas.Slots.Growth.{slice_get-append_kept}
 use Rattle.plane.specs.declared.columns.Asked.{Asked}
 use Rattle.plane.specs.declared.edge.Edge.{Edge}
@@ -19,6 +19,7 @@ use Rattle.plane.specs.Pairs.Sweep.{pair_of}
 use Rattle.plane.specs.SweepLine.Crossings.{Cross}
 use Rattle.plane.proofs.GainsLemmas.{gains-none, gains-only}
 use Rattle.plane.proofs.MeetingLemmas.Columns.{Found, told-meeting}
+use Rattle.plane.proofs.PairsLemmas.Compared.{mapped_at}
 
 -- ---- what is asked, and the edge that it is about
 
@@ -46,9 +47,6 @@ about-within count place inside = by (nat_lt place count) refl
     by : (b : Bool) → b ≡ nat_lt place count → cond b place (place - count) < count
     by true is = ltb-true place count (sym is)
     by false is = omega (arith, inside)
-
-pub mapped_at : {X Y : Type 0} (f : X → Y) (xs : List X) (i : ℕ) (x : X) → slice_get xs i ≡ Some x → slice_get (map f xs) i ≡ Some (f x)
-mapped_at f xs i x is = let there = slice_get-map f xs i in let same = is in cc
 
 module _ (edges : List Edge) (asked : List Asked) (crossed met pairs : List (ℕ × ℕ)) (asked_is : asked ≡ map asked_first edges ++ map asked_last edges) (gains : GainsThese (IsOfSome (IsPairAbout (length edges)) met) crossed pairs) where
   module _ (all_crossed : ArePairs Cross edges crossed) (all_met : ArePairsBetween Reaches edges asked met) where

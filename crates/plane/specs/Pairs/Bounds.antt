@@ -1,5 +1,5 @@
 -- Boxes along the axes, when two of them meet, and items that meet only where their boxes do.
-use Rattle.std.specs.Prelude.{◌≡◌, ◌≤ℤ◌}
+use Rattle.std.specs.Prelude.{◌≡◌, ◌≤ℤ◌, ℕ, ◌<◌, ◌≤◌, List, Some, slice_get}
 use Rattle.plane.specs.declared.pairs.items.Bounds.{Bounds}
 
 -- The left side isn't beyond the right one, nor the lower one above the upper one.
@@ -30,3 +30,18 @@ pub record MeetInBoxesAcross {X Y : Type 0} (bounds : X → Bounds) (other_bound
   pub proper : (one : X) → IsBox (bounds one)
   pub other_proper : (other : Y) → IsBox (other_bounds other)
   pub near : (one : X) (other : Y) → Meeting one other → BoundsMeet (bounds one) (other_bounds other)
+
+-- The one box lies within the other.
+pub record IsWithinBox (box around : Bounds) : Type 0 where
+  pub left : around.left ≤ℤ box.left
+  pub right : box.right ≤ℤ around.right
+  pub low : around.low ≤ℤ box.low
+  pub high : box.high ≤ℤ around.high
+
+-- The place is one from the first on, and before the second.
+abbrev pub IsFromUpto : ℕ → ℕ → ℕ → Type 0
+IsFromUpto from to place = (from ≤ place) × (place < to)
+
+-- Each box in a place from the one on, and before the other, lies within this one.
+abbrev pub IsAroundThese : ℕ → ℕ → List Bounds → Bounds → Type 0
+IsAroundThese from to boxes around = (place : ℕ) (box : Bounds) → slice_get boxes place ≡ Some box → from ≤ place → place < to → IsWithinBox box around

@@ -3,7 +3,7 @@ use Rattle.plane.specs.Pairs.Pairs.{PairAt}
 use Rattle.plane.proofs.PairsLemmas.Compared.{second_more, second_all}
 use Rattle.plane.proofs.PairsLemmas.Extends.{OnErr-always, Extends-trans}
 use Rattle.plane.proofs.PairsLemmas.Points.{Gains-none, Gains-same, Gains-then}
-use Rattle.plane.proofs.pairs.few.append_pairs_of_few.Goals as goal
+use Rattle.plane.proofs.pairs.few.append_pairs_of_each.Goals as goal
 
 pub loop-second-init : goal.loop-second-init
 loop-second-init g c = Gains-none (λ i j. (j < 0) × PairAt g.T.Meets.Meeting c.args.items.now i j) c.args.out.now.items (λ i j (below, _). omega (arith, below))

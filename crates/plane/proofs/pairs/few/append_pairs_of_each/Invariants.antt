@@ -1,7 +1,7 @@
 use Rattle.std.proofs.Common.{◌<◌}
 use Rattle.plane.specs.Pairs.Pairs.{PairAt}
 use Rattle.plane.specs.Pairs.Points.{Gains}
-use Rattle.plane.proofs.pairs.few.append_pairs_of_few.Given as goal
+use Rattle.plane.proofs.pairs.few.append_pairs_of_each.Given as goal
 
 -- the pairs of the items so far
 abbrev pub invariant-loop-second : goal.invariant-loop-second
