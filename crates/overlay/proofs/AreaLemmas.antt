@@ -3,6 +3,7 @@ pub mod Alternating
 pub mod Around
 pub mod Beneath
 pub mod Directed
+pub mod Fans
 pub mod First
 pub mod Left
 pub mod Multiple
@@ -15,4 +16,5 @@ pub mod Slices
 pub mod Stretch
 pub mod Touching
 pub mod Trapezoids
+pub mod Wedges
 pub mod Wide

@@ -23,6 +23,12 @@ pub use Rattle.overlay.proofs.AreaLemmas.Rings.{boundary-signed}
 -- It winds once around each point or not at all, to the left where it runs counterclockwise, else to the right.
 pub use Rattle.overlay.proofs.WindsLemmas.Once.{winds-directed}
 pub use Rattle.overlay.proofs.WindsLemmas.Rings.{boundary-once}
+-- Around a point nothing changes from one edge to the next: what some of the edges wind just clockwise of one they wind just
+-- counterclockwise of the next. Where the edges wind once around a point or not at all, those that end there and those that start
+-- there take turns.
+pub use Rattle.overlay.proofs.AreaLemmas.Left.{just_above, left_of, right_of}
+pub use Rattle.overlay.proofs.AreaLemmas.Wedges.{IsNextAround, clockwise_of, counter_of, same-between}
+pub use Rattle.overlay.proofs.WindsLemmas.Corners.{ends-next, left-alike, left-once, right-none, starts-next}
 -- Of polygons that wind once around a point or not at all each does by itself, where the edge just below a leftwards one is of the
 -- same polygon.
 pub use Rattle.overlay.proofs.WindsLemmas.Each.{IsNextBelow}

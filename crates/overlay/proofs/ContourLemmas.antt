@@ -1,6 +1,7 @@
 -- Lemmas of contours: edges in order, turns, counts of starts and ends, and walks.
 pub mod Bends
 pub mod Callers
+pub mod Clockwise
 pub mod Counts
 pub mod Ends
 pub mod Order

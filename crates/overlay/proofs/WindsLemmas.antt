@@ -1,4 +1,5 @@
 -- Lemmas of how often rings wind around points.
+pub mod Corners
 pub mod Each
 pub mod Left
 pub mod Moved

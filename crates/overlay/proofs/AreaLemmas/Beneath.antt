@@ -1,5 +1,5 @@
--- The edges that pass below a point weigh the same just before it as just behind it.
-use Rattle.std.proofs.Common.{◌≡◌, ◌≢◌, ◌⊎◌, inl, inr, ℤ, pos, ◌+ℤ◌, ◌-ℤ◌, ◌*ℤ◌, ◌<ℤ◌, ◌≤ℤ◌, Bool, true, false, cond, ◌&&◌, List, ap, sym, ◌∙◌, arith}
+-- The edges that pass below a point weigh the same just before it as just behind it, and so do those that don't pass above it.
+use Rattle.std.proofs.Common.{◌≡◌, ◌≢◌, ◌⊎◌, inl, inr, ℤ, pos, ◌+ℤ◌, ◌-ℤ◌, ◌*ℤ◌, ◌<ℤ◌, ◌≤ℤ◌, Bool, true, false, cond, not, ◌&&◌, List, ap, sym, ◌∙◌, arith}
 use Rattle.std.specs.List.{All}
 use Rattle.std.specs.Int.Signed.{lt_z}
 use Rattle.std.specs.Ordering.{int_eq}
@@ -26,9 +26,21 @@ use Rattle.noding.proofs.SnapLemmas.Numbers.{product_positive}
 abbrev pub is_below_point : Point → Edge → Bool
 is_below_point at edge = lt_z (height_by_run edge at.x) (at.y *ℤ run edge)
 
+-- It isn't above the point there.
+abbrev pub is_upto_point : Point → Edge → Bool
+is_upto_point at edge = not (lt_z (at.y *ℤ run edge) (height_by_run edge at.x))
+
+-- The weight of an edge, if it covers the stretch from x on and passes the test.
+abbrev pub passing : (Edge → Bool) → ℤ → Edge → ℤ
+passing test x edge = cond (is_over x (rightwards edge) && test (rightwards edge)) (weight edge) (pos 0)
+
 -- The weight of an edge, if it covers the stretch from x on and is below the point.
 abbrev pub beneath : Point → ℤ → Edge → ℤ
-beneath at x edge = cond (is_over x (rightwards edge) && is_below_point at (rightwards edge)) (weight edge) (pos 0)
+beneath at = passing (is_below_point at)
+
+-- The weight of an edge, if it covers the stretch from x on and isn't above the point.
+abbrev pub not_above : Point → ℤ → Edge → ℤ
+not_above at = passing (is_upto_point at)
 
 -- ---- heights at ends
 
@@ -82,38 +94,31 @@ module _ (k : ℤ) (some : pos 0 <ℤ k) where
 
 -- ---- one edge at the point's column
 
-module _ (at : Point) (x : ℤ) (next : at.x ≡ (x +ℤ pos 1)) where
-  -- the points below it
+-- of a test that an edge passes at an end in the column by the end's y
+module _ (at : Point) (x : ℤ) (next : at.x ≡ (x +ℤ pos 1)) (test : Edge → Bool) (low : ℤ → Bool)
+    (ends : (r : Edge) → r.x0 <ℤ r.x1 → r.x1 ≡ at.x → test r ≡ low r.y1) (begins : (r : Edge) → r.x0 <ℤ r.x1 → r.x0 ≡ at.x → test r ≡ low r.y0) where
+  -- the points of the column whose y passes
   abbrev column : Point → Bool
-  column = in_column at.x (λ y. lt_z y at.y)
+  column = in_column at.x low
 
   not_in : (p : Point) → (p.x ≡ at.x → ⊥) → column p ≡ false
-  not_in p differ = and_left (int_eq p.x at.x) (lt_z p.y at.y) (int_eq-false p.x at.x differ)
+  not_in p differ = and_left (int_eq p.x at.x) (low p.y) (int_eq-false p.x at.x differ)
 
-  in_it : (p : Point) → p.x ≡ at.x → column p ≡ lt_z p.y at.y
-  in_it p is = ap (λ t. t && lt_z p.y at.y) (int_eq-true p.x at.x is)
+  in_it : (p : Point) → p.x ≡ at.x → column p ≡ low p.y
+  in_it p is = ap (λ t. t && low p.y) (int_eq-true p.x at.x is)
 
   -- whether an edge counts on a stretch
-  out : (z : ℤ) (r : Edge) → is_over z r ≡ false → (is_over z r && is_below_point at r) ≡ false
-  out z r not_over = and_left (is_over z r) (is_below_point at r) not_over
+  out : (z : ℤ) (r : Edge) → is_over z r ≡ false → (is_over z r && test r) ≡ false
+  out z r not_over = and_left (is_over z r) (test r) not_over
 
-  over : (z : ℤ) (r : Edge) → is_over z r ≡ true → (is_over z r && is_below_point at r) ≡ is_below_point at r
-  over z r is = ap (λ t. t && is_below_point at r) is
-
-  -- one that ends or starts there is below the point where its end is
-  ends : (r : Edge) → r.x0 <ℤ r.x1 → r.x1 ≡ at.x → is_below_point at r ≡ lt_z r.y1 at.y
-  ends r onwards is =
-      ap (λ h. lt_z h (at.y *ℤ run r)) (ap (λ z. height_by_run r z) (sym is) ∙ height-end r) ∙ times-lt (run r) (omega (arith, ints, onwards)) r.y1 at.y
-
-  begins : (r : Edge) → r.x0 <ℤ r.x1 → r.x0 ≡ at.x → is_below_point at r ≡ lt_z r.y0 at.y
-  begins r onwards is =
-      ap (λ h. lt_z h (at.y *ℤ run r)) (ap (λ z. height_by_run r z) (sym is) ∙ height-start r) ∙ times-lt (run r) (omega (arith, ints, onwards)) r.y0 at.y
+  over : (z : ℤ) (r : Edge) → is_over z r ≡ true → (is_over z r && test r) ≡ test r
+  over z r is = ap (λ t. t && test r) is
 
   -- what is counted before and what behind change places with what ends and what begins
   abbrev Moves : Bool → Bool → Bool → Bool → Type 0
   Moves a b e s = (a ≡ e) × (b ≡ s) ⊎ (a ≡ b) × (e ≡ s)
 
-  right-moves : (r : Edge) → r.x0 <ℤ r.x1 → Moves (is_over x r && is_below_point at r) (is_over at.x r && is_below_point at r) (column (end_of r)) (column (start_of r))
+  right-moves : (r : Edge) → r.x0 <ℤ r.x1 → Moves (is_over x r && test r) (is_over at.x r && test r) (column (end_of r)) (column (start_of r))
   right-moves r onwards =
       by_lt_z r.x1 at.x
       (λ early. inl (
@@ -142,22 +147,52 @@ module _ (at : Point) (x : ℤ) (next : at.x ≡ (x +ℤ pos 1)) where
         out at.x r (over_late at.x r upto) ∙ sym (not_in (start_of r) (λ e. omega (arith, ints, e, is, onwards))),
       )))
 
-  moves : (edge : Edge) → edge.x0 ≢ edge.x1 → (beneath at x edge -ℤ beneath at at.x edge) ≡ (ending column edge -ℤ starting column edge)
+  moves : (edge : Edge) → edge.x0 ≢ edge.x1 → (passing test x edge -ℤ passing test at.x edge) ≡ (ending column edge -ℤ starting column edge)
   moves edge sloped =
       let r = rightwards edge in
-      moves-weighed (is_over x r && is_below_point at r) (is_over at.x r && is_below_point at r) (column (end_of r)) (column (start_of r)) (weight edge) (right-moves r (rightwards-onwards edge sloped))
+      moves-weighed (is_over x r && test r) (is_over at.x r && test r) (column (end_of r)) (column (start_of r)) (weight edge) (right-moves r (rightwards-onwards edge sloped))
 
   none : (a b : ℤ) → a ≡ b → (a -ℤ b) ≡ pos 0
   none a b same = omega (arith, ints, same)
 
-  upright : (edge : Edge) → edge.x0 ≢ edge.x1 → edge.x0 ≡ at.x → edge.x1 ≡ at.x → lt_z edge.y0 at.y ≡ lt_z edge.y1 at.y
+  upright : (edge : Edge) → edge.x0 ≢ edge.x1 → edge.x0 ≡ at.x → edge.x1 ≡ at.x → low edge.y0 ≡ low edge.y1
   upright edge sloped first second = absurd (sloped (first ∙ sym second))
 
-  -- What of balanced edges passes below the point weighs the same just before it as just behind it, where none is vertical.
-  pub same-beneath : (edges : List Edge) → AreBalanced edges → All (λ edge. edge.x0 ≢ edge.x1) edges → total (beneath at x) edges ≡ total (beneath at at.x) edges
-  same-beneath edges closed sloped =
-      total-moved (beneath at x) (beneath at at.x) (λ edge. ending column edge -ℤ starting column edge) edges
+  -- what of balanced edges passes weighs the same before the point as behind it, where none is vertical
+  same-passing : (edges : List Edge) → AreBalanced edges → All (λ edge. edge.x0 ≢ edge.x1) edges → total (passing test x) edges ≡ total (passing test at.x) edges
+  same-passing edges closed sloped =
+      total-moved (passing test x) (passing test at.x) (λ edge. ending column edge -ℤ starting column edge) edges
       (total-difference (ending column) (starting column) edges
       ∙ none (total (ending column) edges) (total (starting column) edges)
-      (column-weights at.x (λ y. lt_z y at.y) edges closed (All-weaker (λ (edge : Edge). edge.x0 ≢ edge.x1) (λ edge. edge.x0 ≡ at.x → edge.x1 ≡ at.x → lt_z edge.y0 at.y ≡ lt_z edge.y1 at.y) upright edges sloped)))
-      (All-weaker (λ (edge : Edge). edge.x0 ≢ edge.x1) (λ edge. (beneath at x edge -ℤ beneath at at.x edge) ≡ (ending column edge -ℤ starting column edge)) moves edges sloped)
+      (column-weights at.x low edges closed (All-weaker (λ (edge : Edge). edge.x0 ≢ edge.x1) (λ edge. edge.x0 ≡ at.x → edge.x1 ≡ at.x → low edge.y0 ≡ low edge.y1) upright edges sloped)))
+      (All-weaker (λ (edge : Edge). edge.x0 ≢ edge.x1) (λ edge. (passing test x edge -ℤ passing test at.x edge) ≡ (ending column edge -ℤ starting column edge)) moves edges sloped)
+
+-- ---- what passes the point's column
+
+module _ (at : Point) where
+  -- one that ends or starts there is below the point where its end is
+  ends-below : (r : Edge) → r.x0 <ℤ r.x1 → r.x1 ≡ at.x → is_below_point at r ≡ lt_z r.y1 at.y
+  ends-below r onwards is =
+      ap (λ h. lt_z h (at.y *ℤ run r)) (ap (λ z. height_by_run r z) (sym is) ∙ height-end r) ∙ times-lt (run r) (omega (arith, ints, onwards)) r.y1 at.y
+
+  begins-below : (r : Edge) → r.x0 <ℤ r.x1 → r.x0 ≡ at.x → is_below_point at r ≡ lt_z r.y0 at.y
+  begins-below r onwards is =
+      ap (λ h. lt_z h (at.y *ℤ run r)) (ap (λ z. height_by_run r z) (sym is) ∙ height-start r) ∙ times-lt (run r) (omega (arith, ints, onwards)) r.y0 at.y
+
+  -- and isn't above it where that isn't
+  ends-upto : (r : Edge) → r.x0 <ℤ r.x1 → r.x1 ≡ at.x → is_upto_point at r ≡ not (lt_z at.y r.y1)
+  ends-upto r onwards is =
+      ap not (ap (λ h. lt_z (at.y *ℤ run r) h) (ap (λ z. height_by_run r z) (sym is) ∙ height-end r) ∙ times-lt (run r) (omega (arith, ints, onwards)) at.y r.y1)
+
+  begins-upto : (r : Edge) → r.x0 <ℤ r.x1 → r.x0 ≡ at.x → is_upto_point at r ≡ not (lt_z at.y r.y0)
+  begins-upto r onwards is =
+      ap not (ap (λ h. lt_z (at.y *ℤ run r) h) (ap (λ z. height_by_run r z) (sym is) ∙ height-start r) ∙ times-lt (run r) (omega (arith, ints, onwards)) at.y r.y0)
+
+  module _ (x : ℤ) (next : at.x ≡ (x +ℤ pos 1)) (edges : List Edge) (closed : AreBalanced edges) (sloped : All (λ edge. edge.x0 ≢ edge.x1) edges) where
+    -- What of balanced edges passes below the point weighs the same just before it as just behind it, where none is vertical.
+    pub same-beneath : total (beneath at x) edges ≡ total (beneath at at.x) edges
+    same-beneath = same-passing at x next (is_below_point at) (λ y. lt_z y at.y) ends-below begins-below edges closed sloped
+
+    -- So does what doesn't pass above it.
+    pub same-not-above : total (not_above at x) edges ≡ total (not_above at at.x) edges
+    same-not-above = same-passing at x next (is_upto_point at) (λ y. not (lt_z at.y y)) ends-upto begins-upto edges closed sloped

@@ -1,5 +1,6 @@
--- What is just below an edge, told at one of its ends: what passes below that end, and what the other edge counts that touches it.
-use Rattle.std.proofs.Common.{◌≡◌, ◌≢◌, ◌⊎◌, inl, inr, ℤ, pos, ◌+ℤ◌, ◌-ℤ◌, ◌*ℤ◌, ◌<ℤ◌, ◌≤ℤ◌, Bool, true, false, cond, ◌&&◌, List, refl, ap, ap₂, sym, subst, ◌∙◌, arith}
+-- Edges at a point that is an end of one of them: of those that haven't it as an end the same count below the edge as pass below
+-- the point.
+use Rattle.std.proofs.Common.{◌≡◌, ◌≢◌, ◌⊎◌, inl, inr, ℤ, pos, ◌+ℤ◌, ◌-ℤ◌, ◌*ℤ◌, ◌<ℤ◌, ◌≤ℤ◌, Bool, true, false, cond, not, ◌&&◌, List, refl, ap, ap₂, sym, subst, ◌∙◌, arith}
 use Rattle.std.specs.List.{All, Contains}
 use Rattle.std.specs.Int.Signed.{lt_z}
 use Rattle.std.specs.Ordering.{int_eq}
@@ -13,26 +14,25 @@ use Rattle.plane.proofs.MeetLemmas.Identities.{number, minus, times, identity}
 use Rattle.plane.proofs.SweepLineLemmas.Gaps.{gap}
 use Rattle.plane.proofs.SweepLineLemmas.Rightwards.{rightwards-left, rightwards-right}
 use Rattle.overlay.specs.Fill.Counts.{is_over, is_lower_on, below_on}
-use Rattle.overlay.specs.Fill.Filled.{AreDistinct, AreNoded, HaveSameEnds}
-use Rattle.overlay.specs.Fill.Pieces.{total, weight}
-use Rattle.overlay.proofs.AreaLemmas.Beneath.{is_below_point, beneath, height-start, height-end, times-less, times-same}
-use Rattle.overlay.proofs.AreaLemmas.Left.{just_below}
-use Rattle.overlay.proofs.FillLemmas.Along.{count-along}
+use Rattle.overlay.specs.Fill.Filled.{AreNoded}
+use Rattle.overlay.specs.Fill.Pieces.{weight}
+use Rattle.overlay.proofs.AreaLemmas.Beneath.{is_below_point, is_upto_point, beneath, not_above, height-start, height-end, times-less, times-same}
+use Rattle.overlay.proofs.AreaLemmas.Left.{upto_on}
 use Rattle.overlay.proofs.FillLemmas.Aside.{IsAside, IsOff, aside}
-use Rattle.overlay.proofs.FillLemmas.Balance.{AreBalanced}
 use Rattle.overlay.proofs.FillLemmas.Level.{MeetOnly}
-use Rattle.overlay.proofs.FillLemmas.Order.{lower-irrefl}
-use Rattle.overlay.proofs.FillLemmas.Premises.{All-among}
-use Rattle.overlay.proofs.FillLemmas.Tests.{lt_false, lt_same, over_is}
-use Rattle.overlay.proofs.FillLemmas.Totals.{total-difference}
+use Rattle.overlay.proofs.FillLemmas.Order.{lower-apart, lower-asym}
+use Rattle.overlay.proofs.FillLemmas.Tests.{lt_false, lt_same, lt_true, over_is}
 use Rattle.overlay.proofs.FillLemmas.Uncrossed.{MeetOnly-exchanged, MeetOnly-rightwards, Uncrossed, uncrossed, uncrossed_from}
-use Rattle.overlay.proofs.KeptLemmas.First.{total-one}
+use Rattle.overlay.proofs.KeptLemmas.First.{turned-meet}
 use Rattle.overlay.proofs.PieceLemmas.Edges.{equal, unequal}
 use Rattle.overlay.proofs.PieceLemmas.Made.{rightwards-onwards}
 
 -- The point is one of the edge's ends.
 abbrev pub Touches : Point → Edge → Type 0
 Touches at edge = (start_of edge ≡ at) ⊎ (end_of edge ≡ at)
+
+abbrev pub Away : Point → Edge → Type 0
+Away at edge = (start_of edge ≢ at) × (end_of edge ≢ at)
 
 -- ---- points
 
@@ -50,16 +50,16 @@ point-or p q = by (int_eq p.x q.x) (int_eq p.y q.y) refl refl
     by false t e f = inr (λ same. unequal p.x q.x e (ap (λ (r : Point). r.x) same))
     by true false e f = inr (λ same. unequal p.y q.y f (ap (λ (r : Point). r.y) same))
 
-touches-or : (at : Point) (edge : Edge) → Touches at edge ⊎ ((start_of edge ≢ at) × (end_of edge ≢ at))
+pub touches-or : (at : Point) (edge : Edge) → Touches at edge ⊎ Away at edge
 touches-or at edge = by (point-or (start_of edge) at) (point-or (end_of edge) at)
   where
-    by : (start_of edge ≡ at) ⊎ (start_of edge ≢ at) → (end_of edge ≡ at) ⊎ (end_of edge ≢ at) → Touches at edge ⊎ ((start_of edge ≢ at) × (end_of edge ≢ at))
+    by : (start_of edge ≡ at) ⊎ (start_of edge ≢ at) → (end_of edge ≡ at) ⊎ (end_of edge ≢ at) → Touches at edge ⊎ Away at edge
     by (inl starts) ends = inl (inl starts)
     by (inr off) (inl ends) = inl (inr ends)
     by (inr off) (inr off_too) = inr (off, off_too)
 
 -- an edge turned rightwards has the edge's ends, and no others
-touches-turned : (at : Point) (edge : Edge) → Touches at edge → Touches at (rightwards edge)
+pub touches-turned : (at : Point) (edge : Edge) → Touches at edge → Touches at (rightwards edge)
 touches-turned at edge touches = by (lt_z edge.x1 edge.x0) refl touches
   where
     by : (t : Bool) → lt_z edge.x1 edge.x0 ≡ t → Touches at edge → Touches at (rightwards edge)
@@ -172,7 +172,7 @@ module _ (r g : Edge) (at : Point) (x : ℤ) (side : (at.x ≡ x) ⊎ (at.x ≡ 
 
 -- ---- tests
 
-and-alike : (t a b : Bool) → (t ≡ true → a ≡ b) → (t && a) ≡ (t && b)
+pub and-alike : (t a b : Bool) → (t ≡ true → a ≡ b) → (t && a) ≡ (t && b)
 and-alike true a b same = same refl
 and-alike false a b same = refl
 
@@ -180,92 +180,116 @@ and-false : (t a : Bool) → a ≡ false → (t && a) ≡ false
 and-false true a is = is
 and-false false a is = refl
 
--- ---- edges of which two alone touch the point
+-- a test that fails where the other one holds
+pub and-never : (t a : Bool) → (t ≡ true → a ≡ false) → (t && a) ≡ false
+and-never true a none = none refl
+and-never false a none = refl
 
-module _ (edges : List Edge) (noded : AreNoded edges) (distinct : AreDistinct edges) (sloped : All (λ edge. edge.x0 ≢ edge.x1) edges) (closed : AreBalanced edges)
-    (at : Point) (mine other : Edge) (among : Contains edges mine) (among_too : Contains edges other) (touches : Touches at mine) (touches_too : Touches at other)
-    (alone : (edge : Edge) → Contains edges edge → Touches at edge → (edge ≡ mine) ⊎ (edge ≡ other))
-    (x : ℤ) (side : (at.x ≡ x) ⊎ (at.x ≡ (x +ℤ pos 1))) (over : is_over x (rightwards mine) ≡ true) where
+-- of two different numbers the one that isn't less is more
+not-less : (a b : ℤ) → a ≢ b → not (lt_z a b) ≡ lt_z b a
+not-less a b differ =
+    by_lt_z a b
+    (λ less. ap not (lt_true a b less) ∙ sym (lt_false b a (omega (arith, ints, less))))
+    (λ upto. ap not (lt_false a b upto) ∙ sym (lt_true b a (by_lt_z b a (λ more. more) (λ from. absurd (differ (omega (arith, ints, upto, from)))))))
+
+-- ---- edges that touch the point
+
+-- one doesn't pass below it
+pub no-beneath : (at : Point) (x : ℤ) (edge : Edge) → Touches at edge → beneath at x edge ≡ pos 0
+no-beneath at x edge touching =
+    let r = rightwards edge in
+    let level = level-touching at r (touches-turned at edge touching) in
+    ap (λ t. cond t (weight edge) (pos 0)) (and-false (is_over x r) (is_below_point at r) (lt_false (height_by_run r at.x) (at.y *ℤ run r) (omega (arith, ints, level))))
+
+-- nor above it
+pub upto-touching : (at : Point) (edge : Edge) → Touches at edge → is_upto_point at (rightwards edge) ≡ true
+upto-touching at edge touching =
+    let r = rightwards edge in
+    let level = level-touching at r (touches-turned at edge touching) in
+    ap not (lt_false (at.y *ℤ run r) (height_by_run r at.x) (omega (arith, ints, level)))
+
+module _ (edges : List Edge) (noded : AreNoded edges) (sloped : All (λ edge. edge.x0 ≢ edge.x1) edges) (at : Point) (one : Edge) (among : Contains edges one) (touches : Touches at one) where
   abbrev g : Edge
-  g = rightwards mine
+  g = rightwards one
 
-  meet : (one two : Edge) → Contains edges one → Contains edges two → MeetOnly one two
-  meet one two first second point of_one of_two = noded one two point first second of_one of_two
+  meet : (first second : Edge) → Contains edges first → Contains edges second → MeetOnly first second
+  meet first second is_first is_second point of_first of_second = noded first second point is_first is_second of_first of_second
 
   onwards : (edge : Edge) → Contains edges edge → (rightwards edge).x0 <ℤ (rightwards edge).x1
   onwards edge inside = rightwards-onwards edge (All-contains (λ (e : Edge). e.x0 ≢ e.x1) edges edge sloped inside)
 
   -- the edges meet g only at common ends
   meets_g : (edge : Edge) → Contains edges edge → MeetOnly edge g
-  meets_g edge inside = MeetOnly-exchanged g edge (MeetOnly-rightwards mine edge (meet mine edge among inside))
+  meets_g edge inside = MeetOnly-exchanged g edge (MeetOnly-rightwards one edge (meet one edge among inside))
+
+  -- so they keep off its inside
+  pub aside_g : (edge : Edge) → Contains edges edge → IsAside g edge
+  aside_g edge inside = aside g edge (meets_g edge inside)
 
   -- the point isn't inside any of them
   off : (edge : Edge) → Contains edges edge → IsOff (rightwards edge) at.x at.y
   off edge inside = by touches
     where
-      is_aside : IsAside (rightwards edge) mine
-      is_aside = aside (rightwards edge) mine (MeetOnly-exchanged (rightwards edge) mine (MeetOnly-rightwards edge mine (meet edge mine inside among)))
+      is_aside : IsAside (rightwards edge) one
+      is_aside = aside (rightwards edge) one (MeetOnly-exchanged (rightwards edge) one (MeetOnly-rightwards edge one (meet edge one inside among)))
 
-      by : Touches at mine → IsOff (rightwards edge) at.x at.y
+      by : Touches at one → IsOff (rightwards edge) at.x at.y
       by (inl is) = subst (λ (p : Point). IsOff (rightwards edge) p.x p.y) is is_aside.from
       by (inr is) = subst (λ (p : Point). IsOff (rightwards edge) p.x p.y) is is_aside.to
 
-  -- the edges that touch it don't pass below it
-  no-beneath : (edge : Edge) → Touches at edge → beneath at x edge ≡ pos 0
-  no-beneath edge touching =
-      let r = rightwards edge in
-      let level = level-touching at r (touches-turned at edge touching) in
-      ap (λ t. cond t (weight edge) (pos 0)) (and-false (is_over x r) (is_below_point at r) (lt_false (height_by_run r at.x) (at.y *ℤ run r) (omega (arith, ints, level))))
+  module _ (x : ℤ) (side : (at.x ≡ x) ⊎ (at.x ≡ (x +ℤ pos 1))) where
+    first_end : (a : ℤ) → a ≤ℤ x → a ≤ℤ at.x
+    first_end a h = elim side [ inl is ↦ omega (arith, ints, h, is) | inr is ↦ omega (arith, ints, h, is) ]
 
-  -- g isn't below itself
-  no-lower : below_on x g mine ≡ pos 0
-  no-lower = ap (λ t. cond t (weight mine) (pos 0)) (and-false (is_over x g) (is_lower_on x g g) (lower-irrefl x g))
+    last_end : (a : ℤ) → x <ℤ a → at.x ≤ℤ a
+    last_end a h = elim side [ inl is ↦ omega (arith, ints, h, is) | inr is ↦ omega (arith, ints, h, is) ]
 
-  none : (a b : ℤ) → a ≡ b → (a -ℤ b) ≡ pos 0
-  none a b same = omega (arith, ints, same)
+    -- one over the stretch that hasn't the point as an end isn't level with it
+    clear : (edge : Edge) → Contains edges edge → Away at edge → is_over x (rightwards edge) ≡ true → (at.y *ℤ run (rightwards edge)) ≢ height_by_run (rightwards edge) at.x
+    clear edge inside away over =
+        let r = rightwards edge in
+        let span = over_is x r over in
+        let apart = off-turned at edge away.0 away.1 in
+        clear-of r at (onwards edge inside) (first_end r.x0 span.0) (last_end r.x1 span.1) (off edge inside) apart.0 apart.1
 
-  -- one that doesn't touch it counts below g where it passes below the point
-  same-off : (edge : Edge) → Contains edges edge → (start_of edge ≢ at) × (end_of edge ≢ at) → below_on x g edge ≡ beneath at x edge
-  same-off edge inside (first, second) =
-      let r = rightwards edge in
-      let away = off-turned at edge first second in
-      ap (λ t. cond t (weight edge) (pos 0)) (and-alike (is_over x r) (is_lower_on x r g) (is_below_point at r)
-      (λ is_over_too.
-      let span = over_is x r is_over_too in
-      let from_x = span.0 in
-      let before_x = span.1 in
-      lower-beneath r g at x side is_over_too over (uncrossed_from edge g (onwards mine among) (uncrossed edge g (meets_g edge inside))) (level-touching at g (touches-turned at mine touches))
-      (clear-of r at (onwards edge inside) (first_end r.x0 from_x side) (last_end r.x1 before_x side) (off edge inside) away.0 away.1)))
-    where
-      first_end : (a : ℤ) → a ≤ℤ x → (at.x ≡ x) ⊎ (at.x ≡ (x +ℤ pos 1)) → a ≤ℤ at.x
-      first_end a h (inl is) = omega (arith, ints, h, is)
-      first_end a h (inr is) = omega (arith, ints, h, is)
+    -- so it passes below the point where it doesn't pass above it
+    pub not-above-off : (edge : Edge) → Contains edges edge → Away at edge → not_above at x edge ≡ beneath at x edge
+    not-above-off edge inside away =
+        let r = rightwards edge in
+        ap (λ t. cond t (weight edge) (pos 0)) (and-alike (is_over x r) (is_upto_point at r) (is_below_point at r) (λ over. not-less (at.y *ℤ run r) (height_by_run r at.x) (clear edge inside away over)))
 
-      last_end : (a : ℤ) → x <ℤ a → (at.x ≡ x) ⊎ (at.x ≡ (x +ℤ pos 1)) → at.x ≤ℤ a
-      last_end a h (inl is) = omega (arith, ints, h, is)
-      last_end a h (inr is) = omega (arith, ints, h, is)
+    module _ (over : is_over x g ≡ true) where
+      -- it is below g where it passes below the point
+      lower-off : (edge : Edge) → Contains edges edge → Away at edge → is_over x (rightwards edge) ≡ true → is_lower_on x (rightwards edge) g ≡ is_below_point at (rightwards edge)
+      lower-off edge inside away is_over_too =
+          lower-beneath (rightwards edge) g at x side is_over_too over (uncrossed_from edge g (onwards one among) (uncrossed edge g (meets_g edge inside))) (level-touching at g (touches-turned at one touches)) (clear edge inside away is_over_too)
 
-  -- so does each but the other one that touches it
-  same-others : (edge : Edge) → Contains edges edge → ¬ (HaveSameEnds edge other) → (below_on x g edge -ℤ beneath at x edge) ≡ pos 0
-  same-others edge inside differ = by (touches-or at edge)
-    where
-      by_touching : (edge ≡ mine) ⊎ (edge ≡ other) → Touches at edge → (below_on x g edge -ℤ beneath at x edge) ≡ pos 0
-      by_touching (inl is) touching = none (below_on x g edge) (beneath at x edge) (ap (below_on x g) is ∙ no-lower ∙ sym (no-beneath edge touching))
-      by_touching (inr is) touching = absurd (differ (inl is))
+      -- so it counts below g where it passes below the point
+      pub below-off : (edge : Edge) → Contains edges edge → Away at edge → below_on x g edge ≡ beneath at x edge
+      below-off edge inside away =
+          let r = rightwards edge in
+          ap (λ t. cond t (weight edge) (pos 0)) (and-alike (is_over x r) (is_lower_on x r g) (is_below_point at r) (lower-off edge inside away))
 
-      by : Touches at edge ⊎ ((start_of edge ≢ at) × (end_of edge ≢ at)) → (below_on x g edge -ℤ beneath at x edge) ≡ pos 0
-      by (inl touching) = by_touching (alone edge inside touching) touching
-      by (inr away) = none (below_on x g edge) (beneath at x edge) (same-off edge inside away)
+      -- and is above g where it isn't below it
+      pub upto-off : (edge : Edge) → Contains edges edge → Away at edge → upto_on x g edge ≡ beneath at x edge
+      upto-off edge inside away =
+          let r = rightwards edge in
+          ap (λ t. cond t (weight edge) (pos 0)) (and-alike (is_over x r) (not (is_lower_on x g r)) (is_below_point at r)
+          (λ is_over_too. higher edge inside away is_over_too ∙ lower-off edge inside away is_over_too))
+        where
+          differ : (edge : Edge) → Away at edge → rightwards edge ≢ g
+          differ edge away same = by (touches-turned at one touches)
+            where
+              apart : (start_of (rightwards edge) ≢ at) × (end_of (rightwards edge) ≢ at)
+              apart = off-turned at edge away.0 away.1
 
-  -- a difference of sums that is one term
-  joined : (sum first count nothing : ℤ) → (sum -ℤ first) ≡ (count -ℤ nothing) → nothing ≡ pos 0 → sum ≡ (first +ℤ count)
-  joined sum first count nothing is gone = omega (arith, ints, is, gone)
+              by : Touches at g → ⊥
+              by (inl is) = apart.0 (ap (λ (e : Edge). start_of e) same ∙ is)
+              by (inr is) = apart.1 (ap (λ (e : Edge). end_of e) same ∙ is)
 
-  -- What is just below the edge is what passes below the point, and what the other edge that touches it counts.
-  pub just-below-is : just_below edges mine ≡ (total (beneath at x) edges +ℤ below_on x g other)
-  just-below-is =
-      let span = over_is x g over in
-      sym (count-along g x edges closed (All-among (IsAside g) edges (λ edge inside. aside g edge (meets_g edge inside))) span.0 span.1)
-      ∙ joined (total (below_on x g) edges) (total (beneath at x) edges) (below_on x g other) (beneath at x other)
-      (sym (total-difference (below_on x g) (beneath at x) edges) ∙ total-one (λ edge. below_on x g edge -ℤ beneath at x edge) other edges among_too distinct same-others)
-      (no-beneath other touches_too)
+          higher : (edge : Edge) → Contains edges edge → Away at edge → is_over x (rightwards edge) ≡ true → not (is_lower_on x g (rightwards edge)) ≡ is_lower_on x (rightwards edge) g
+          higher edge inside away is_over_too =
+              elim (lower-apart (rightwards edge) g x (turned-meet edges noded edge one inside among) (differ edge away) is_over_too over) [
+                | inl lower ↦ ap not (lower-asym x (rightwards edge) g lower) ∙ sym lower
+                | inr above ↦ ap not above ∙ sym (lower-asym x g (rightwards edge) above)
+              ]

@@ -1,5 +1,5 @@
 -- Around a point of an edge the edges don't wind as around a point just below it.
-use Rattle.std.proofs.Common.{◌≡◌, ◌≢◌, inl, inr, ◌+◌, ◌*◌, ◌<◌, Bool, true, false, cond, ℕ, ℤ, pos, negsuc, ◌+ℤ◌, ◌-ℤ◌, ◌*ℤ◌, ◌≤ℤ◌, ◌<ℤ◌, List, refl, ap, ap₂, sym, ◌∙◌, arith}
+use Rattle.std.proofs.Common.{◌≡◌, ◌≢◌, ◌+◌, ◌*◌, ◌<◌, Bool, true, false, cond, ℕ, ℤ, pos, ◌+ℤ◌, ◌-ℤ◌, ◌*ℤ◌, ◌≤ℤ◌, ◌<ℤ◌, List, refl, ap, sym, ◌∙◌, arith}
 use Rattle.std.specs.List.{Contains}
 use Rattle.std.proofs.Math.Nat.{mul-pos}
 use Rattle.std.proofs.lemmas.Int.{by_lt_z, ints}
@@ -11,7 +11,7 @@ use Rattle.noding.specs.Windings.{winding}
 use Rattle.noding.proofs.SnapLemmas.Counted.{height_at, is_counted}
 use Rattle.noding.proofs.SnapLemmas.Numbers.{n_of, natural}
 use Rattle.overlay.specs.Fill.Filled.{AreDistinct, AreNoded, HaveSameEnds}
-use Rattle.overlay.specs.Fill.Pieces.{total, weight}
+use Rattle.overlay.specs.Fill.Pieces.{weight}
 use Rattle.overlay.proofs.AreaLemmas.Ranges.{in-reach, reach}
 use Rattle.overlay.proofs.FillLemmas.Level.{MeetOnly, level-same}
 use Rattle.overlay.proofs.FillLemmas.Totals.{total-difference}
@@ -75,18 +75,18 @@ module _ (edges : List Edge) (noded : AreNoded edges) (distinct : AreDistinct ed
   onwards : r.x0 <ℤ r.x1
   onwards = rightwards-onwards edge sloped
 
-  wide : 0 < w
+  pub wide : 0 < w
   wide = let some = onwards in omega (arith, ints, some, width)
 
   -- no edge goes further than this
   abbrev k : ℕ
   k = 1 + reach (λ (e : Edge). run (rightwards e)) edges
 
-  some : 0 < k
+  pub some : 0 < k
   some = omega arith
 
   -- the edge's point in the column
-  abbrev upper : RationalPoint
+  abbrev pub upper : RationalPoint
   upper = record {
     n = w * at.n;
     x = pos w *ℤ at.x;
@@ -95,7 +95,7 @@ module _ (edges : List Edge) (noded : AreNoded edges) (distinct : AreDistinct ed
   }
 
   -- and one just below it
-  abbrev lower : RationalPoint
+  abbrev pub lower : RationalPoint
   lower = record {
     n = k * upper.n;
     x = pos k *ℤ upper.x;
@@ -196,37 +196,46 @@ module _ (edges : List Edge) (noded : AreNoded edges) (distinct : AreDistinct ed
       let high = level in
       is_counted-from r upper (record { from = omega (arith, ints, start, start_is); before = omega (arith, ints, end, end_is); upto = omega (arith, ints, high) })
 
-  own-apart : apart_by edge ≢ pos 0
-  own-apart none = by (is_counted r lower) refl
+  own-apart : apart_by edge ≡ weight edge
+  own-apart = by (is_counted r lower) refl
     where
-      weighs : weight edge ≢ pos 0
-      weighs light =
-          by_lt_z edge.x0 edge.x1
-          (λ on. let is = weight-right edge on in omega (arith, ints, is, light))
-          (λ upto. by_lt_z edge.x1 edge.x0
-          (λ back. let is = weight-left edge back in omega (arith, ints, is, light))
-          (λ from. sloped (omega (arith, ints, upto, from))))
-
       counts : ◌≡◌ {A = ℤ} (cond (is_counted r upper) (weight edge) (pos 0)) (weight edge)
       counts = ap (λ (t : Bool). cond t (weight edge) (pos 0)) own-upper
 
-      by : (t : Bool) → is_counted r lower ≡ t → ⊥
+      by : (t : Bool) → is_counted r lower ≡ t → apart_by edge ≡ weight edge
       by true is =
           let (goes, strict, under) = lower-strict r (under_is r lower is) in
           let high = level in
-          omega (arith, ints, strict, high)
+          absurd (omega (arith, ints, strict, high))
       by false is =
           let other = ap (λ (t : Bool). cond t (weight edge) (pos 0)) is in
           let mine = counts in
-          weighs (omega (arith, ints, none, other, mine))
+          omega (arith, ints, other, mine)
 
-  differ : winding edges upper ≢ winding edges lower
-  differ same =
+  -- Around the edge's point they wind more by its weight than around the one just below.
+  pub winds-more : winding edges upper ≡ (winding edges lower +ℤ weight edge)
+  winds-more =
       let one = winding-total edges upper in
       let other = winding-total edges lower in
       let sum = total-difference (part upper) (part lower) edges in
       let alone = total-one apart_by edge edges among distinct others-alike in
-      own-apart (omega (arith, ints, same, one, other, sum, alone))
+      let own = own-apart in
+      omega (arith, ints, one, other, sum, alone, own)
+
+  differ : winding edges upper ≢ winding edges lower
+  differ same = weighs
+    where
+      more : winding edges upper ≡ (winding edges lower +ℤ weight edge)
+      more = winds-more
+
+      weighs : ⊥
+      weighs =
+          let is_more = more in
+          by_lt_z edge.x0 edge.x1
+          (λ on. let is = weight-right edge on in omega (arith, ints, is, is_more, same))
+          (λ upto. by_lt_z edge.x1 edge.x0
+          (λ back. let is = weight-left edge back in omega (arith, ints, is, is_more, same))
+          (λ from. sloped (omega (arith, ints, upto, from))))
 
   apart : WindApart edges r at
   apart = record {

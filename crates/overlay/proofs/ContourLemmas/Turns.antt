@@ -105,11 +105,11 @@ within_half bx by ux uy vx vy wx wy some first second third onwards one other = 
     absurd (no_turn (cross vx vy wx wy) (dot bx by bx by) (cross bx by wx wy) (dot bx by vx vy) (cross bx by vx vy) (dot bx by wx wy)
     (two bx by vx vy wx wy) other (some_square bx by some) none_w second (onwards none_w))))
 
-left_signs : (back way : Direction) → IsLeft back way → (cross back.x back.y way.x way.y ≤ℤ pos 0) × (cross back.x back.y way.x way.y ≡ pos 0 → pos 0 ≤ℤ dot back.x back.y way.x way.y)
+pub left_signs : (back way : Direction) → IsLeft back way → (cross back.x back.y way.x way.y ≤ℤ pos 0) × (cross back.x back.y way.x way.y ≡ pos 0 → pos 0 ≤ℤ dot back.x back.y way.x way.y)
 left_signs back way (inl below) = (omega (arith, ints, below), λ none. absurd (omega (arith, ints, below, none)))
 left_signs back way (inr (none, above)) = (omega (arith, ints, none), λ same. omega (arith, ints, above))
 
-right_signs : (back way : Direction) → ¬ (IsLeft back way) → (pos 0 ≤ℤ cross back.x back.y way.x way.y) × (cross back.x back.y way.x way.y ≡ pos 0 → dot back.x back.y way.x way.y ≤ℤ pos 0)
+pub right_signs : (back way : Direction) → ¬ (IsLeft back way) → (pos 0 ≤ℤ cross back.x back.y way.x way.y) × (cross back.x back.y way.x way.y ≡ pos 0 → dot back.x back.y way.x way.y ≤ℤ pos 0)
 right_signs back way right = (
   by_lt_z (cross back.x back.y way.x way.y) (pos 0) (λ below. absurd (right (inl below))) (λ from. from),
   λ none. by_lt_z (pos 0) (dot back.x back.y way.x way.y) (λ above. absurd (right (inr (none, above)))) (λ upto. upto),

@@ -56,7 +56,7 @@ pub record Middle (edge : Edge) (x : ℤ) : Type 0 where
   pub is : run edge ≡ pos k
   pub some : 0 < k
 
-middle_of : (edge : Edge) (x : ℤ) → edge.x0 <ℤ edge.x1 → Middle edge x
+pub middle_of : (edge : Edge) (x : ℤ) → edge.x0 <ℤ edge.x1 → Middle edge x
 middle_of edge x onwards =
     let width = natural (run edge) (omega (arith, ints, onwards)) in
     let is = width.is in
@@ -132,7 +132,7 @@ module _ (edge : Edge) (x : ℤ) (at : Middle edge x) where
           is_true : (a b c d : ℤ) → a ≡ d → b ≡ c → d ≤ℤ c → int_le a b ≡ not (lt_z c d)
           is_true a b c d first second upto = grind (arith, ints)
 
-  counted-half : (other : Edge) → is_counted other half_way ≡ (is_over x other && not (is_lower_on x edge other))
+  pub counted-half : (other : Edge) → is_counted other half_way ≡ (is_over x other && not (is_lower_on x edge other))
   counted-half other = ap₂ (λ (s t : Bool). s && t) (ap₂ (λ (s t : Bool). s && t) (from-half other.x0) (before-half other.x1)) (low-half other)
 
 -- ---- tests

@@ -1,0 +1,174 @@
+-- Of ways from one point, each to the left or to the right, which one comes first clockwise.
+use Rattle.std.proofs.Common.{◌≡◌, ◌⊎◌, inl, inr, ℤ, pos, ◌+ℤ◌, ◌-ℤ◌, ◌*ℤ◌, ◌≤ℤ◌, ◌<ℤ◌, arith}
+use Rattle.std.proofs.lemmas.Int.{by_lt_z, ints}
+use Rattle.plane.specs.Meet.Crosses.{cross}
+use Rattle.plane.proofs.MeetLemmas.Identities.{Term, identity, minus, number, plus, times}
+use Rattle.plane.proofs.SweepLineLemmas.Gaps.{product_above}
+use Rattle.noding.proofs.SnapLemmas.Numbers.{n_of, product_positive}
+use Rattle.overlay.specs.Contours.Turns.{ComesBefore, Direction, IsLeft, dot}
+use Rattle.overlay.proofs.ContourLemmas.Turns.{across, left_signs, right_signs}
+
+-- Both ways go to the left, or both to the right.
+abbrev pub AreBeside : Direction → Direction → Type 0
+AreBeside one other = ((one.x <ℤ pos 0) × (other.x <ℤ pos 0)) ⊎ ((pos 0 <ℤ one.x) × (pos 0 <ℤ other.x))
+
+-- One of them goes to the left, and the other to the right.
+abbrev pub AreOpposite : Direction → Direction → Type 0
+AreOpposite one other = ((one.x <ℤ pos 0) × (pos 0 <ℤ other.x)) ⊎ ((pos 0 <ℤ one.x) × (other.x <ℤ pos 0))
+
+-- The cross product of two ways: below 0 where the other one lies clockwise from the one, by less than a half turn.
+abbrev pub turn : Direction → Direction → ℤ
+turn one other = cross one.x one.y other.x other.y
+
+-- the other way round it is as much below 0 as it was above it
+pub turn-back : (one other : Direction) → turn one other ≡ (pos 0 -ℤ turn other one)
+turn-back one other = identity (across one.x one.y other.x other.y) (minus (n_of 0) (across other.x other.y one.x one.y)) (omega arith)
+
+-- whether a way lies within a half turn clockwise
+pub left-or : (back way : Direction) → IsLeft back way ⊎ (¬ (IsLeft back way))
+left-or back way =
+    by_lt_z (turn back way) (pos 0) (λ below. inl (inl below))
+    (λ from. by_lt_z (pos 0) (turn back way) (λ above. inr (not-above above))
+    (λ upto. by_lt_z (pos 0) (dot back.x back.y way.x way.y) (λ ahead. inl (inr (omega (arith, ints, from, upto), ahead)))
+    (λ behind. inr (not-behind from behind))))
+  where
+    not-above : pos 0 <ℤ turn back way → ¬ (IsLeft back way)
+    not-above above (inl below) = omega (arith, ints, above, below)
+    not-above above (inr (none, ahead)) = omega (arith, ints, above, none)
+
+    not-behind : pos 0 ≤ℤ turn back way → dot back.x back.y way.x way.y ≤ℤ pos 0 → ¬ (IsLeft back way)
+    not-behind from behind (inl below) = omega (arith, ints, from, below)
+    not-behind from behind (inr (none, ahead)) = omega (arith, ints, behind, ahead)
+
+-- ---- signs
+
+-- numbers whose multiples add up to 0: one is below 0 where the others aren't, and one of those is above
+below-others : (p q r u v w : ℤ) → pos 0 <ℤ p → pos 0 <ℤ q → pos 0 <ℤ r → (((p *ℤ u) +ℤ (q *ℤ v)) +ℤ (r *ℤ w)) ≡ pos 0 → pos 0 ≤ℤ v → pos 0 <ℤ w → u <ℤ pos 0
+below-others p q r u v w first second third sum from above =
+    by_lt_z u (pos 0) (λ is. is)
+    (λ not_below.
+    let one = product_above p u (omega (arith, ints, first)) not_below in
+    let other = product_above q v (omega (arith, ints, second)) from in
+    let more = product_positive r w third above in
+    absurd (omega (arith, ints, sum, one, other, more)))
+
+abbrev neg : ℤ → Term
+neg z = minus (n_of 0) (number z)
+
+module _ (a e b : Direction) where
+  abbrev ae : Term
+  ae = across a.x a.y e.x e.y
+
+  abbrev ea : Term
+  ea = across e.x e.y a.x a.y
+
+  abbrev ab : Term
+  ab = across a.x a.y b.x b.y
+
+  abbrev ba : Term
+  ba = across b.x b.y a.x a.y
+
+  abbrev eb : Term
+  eb = across e.x e.y b.x b.y
+
+  abbrev be : Term
+  be = across b.x b.y e.x e.y
+
+  less : (x : ℤ) → x <ℤ pos 0 → pos 0 <ℤ (pos 0 -ℤ x)
+  less x below = omega (arith, ints, below)
+
+  upto : pos 0 <ℤ turn a b → pos 0 ≤ℤ turn a b
+  upto above = omega (arith, ints, above)
+
+  from : turn a b ≤ℤ pos 0 → pos 0 ≤ℤ turn b a
+  from below = let is = turn-back a b in omega (arith, ints, below, is)
+
+  back : (one other : Direction) → turn one other <ℤ pos 0 → pos 0 <ℤ turn other one
+  back one other below = let is = turn-back one other in omega (arith, ints, below, is)
+
+  -- a way on the other side, no further than a half turn back, lies before one beside that is back
+  beyond : AreBeside a b → AreOpposite a e → pos 0 <ℤ turn a b → pos 0 ≤ℤ turn a e → turn e b <ℤ pos 0
+  beyond (inl (al, bl)) (inl (al_too, er)) above not_below =
+      below-others (pos 0 -ℤ a.x) (pos 0 -ℤ b.x) e.x (turn e b) (turn a e) (turn a b) (less a.x al) (less b.x bl) er
+      (identity (plus (plus (times (neg a.x) eb) (times (neg b.x) ae)) (times (number e.x) ab)) (n_of 0) (omega arith)) not_below above
+  beyond (inr (ar, br)) (inr (ar_too, el)) above not_below =
+      below-others a.x b.x (pos 0 -ℤ e.x) (turn e b) (turn a e) (turn a b) ar br (less e.x el)
+      (identity (plus (plus (times (number a.x) eb) (times (number b.x) ae)) (times (neg e.x) ab)) (n_of 0) (omega arith)) not_below above
+  beyond (inl (al, bl)) (inr (ar, el)) above not_below = absurd (omega (arith, ints, al, ar))
+  beyond (inr (ar, br)) (inl (al, er)) above not_below = absurd (omega (arith, ints, al, ar))
+
+  -- of two on one side and a third one on the other
+  behind : AreBeside a e → AreOpposite a b → turn a e <ℤ pos 0 → turn a b ≤ℤ pos 0 → turn e b <ℤ pos 0
+  behind (inl (al, el)) (inl (al_too, br)) below not_above =
+      below-others (pos 0 -ℤ a.x) (pos 0 -ℤ e.x) b.x (turn e b) (turn b a) (turn e a) (less a.x al) (less e.x el) br
+      (identity (plus (plus (times (neg a.x) eb) (times (neg e.x) ba)) (times (number b.x) ea)) (n_of 0) (omega arith)) (from not_above) (back a e below)
+  behind (inr (ar, er)) (inr (ar_too, bl)) below not_above =
+      below-others a.x e.x (pos 0 -ℤ b.x) (turn e b) (turn b a) (turn e a) ar er (less b.x bl)
+      (identity (plus (plus (times (number a.x) eb) (times (number e.x) ba)) (times (neg b.x) ea)) (n_of 0) (omega arith)) (from not_above) (back a e below)
+  behind (inl (al, el)) (inr (ar, bl)) below not_above = absurd (omega (arith, ints, al, ar))
+  behind (inr (ar, er)) (inl (al, br)) below not_above = absurd (omega (arith, ints, al, ar))
+
+  -- of one on one side and two on the other
+  before : AreOpposite a e → AreBeside e b → turn e b <ℤ pos 0 → turn a b ≤ℤ pos 0 → turn a e <ℤ pos 0
+  before (inl (al, er)) (inr (er_too, br)) below not_above =
+      below-others b.x e.x (pos 0 -ℤ a.x) (turn a e) (turn b a) (turn b e) br er (less a.x al)
+      (identity (plus (plus (times (number b.x) ae) (times (number e.x) ba)) (times (neg a.x) be)) (n_of 0) (omega arith)) (from not_above) (back e b below)
+  before (inr (ar, el)) (inl (el_too, bl)) below not_above =
+      below-others (pos 0 -ℤ b.x) (pos 0 -ℤ e.x) a.x (turn a e) (turn b a) (turn b e) (less b.x bl) (less e.x el) ar
+      (identity (plus (plus (times (neg b.x) ae) (times (neg e.x) ba)) (times (number a.x) be)) (n_of 0) (omega arith)) (from not_above) (back e b below)
+  before (inl (al, er)) (inl (el, bl)) below not_above = absurd (omega (arith, ints, er, el))
+  before (inr (ar, el)) (inr (er, br)) below not_above = absurd (omega (arith, ints, er, el))
+
+  -- of three on one side
+  beside : AreBeside a e → AreBeside a b → turn e b <ℤ pos 0 → pos 0 <ℤ turn a b → turn e a <ℤ pos 0
+  beside (inl (al, el)) (inl (al_too, bl)) below above =
+      below-others (pos 0 -ℤ b.x) (pos 0 -ℤ e.x) (pos 0 -ℤ a.x) (turn e a) (turn a b) (turn b e) (less b.x bl) (less e.x el) (less a.x al)
+      (identity (plus (plus (times (neg b.x) ea) (times (neg e.x) ab)) (times (neg a.x) be)) (n_of 0) (omega arith)) (upto above) (back e b below)
+  beside (inr (ar, er)) (inr (ar_too, br)) below above =
+      below-others b.x e.x a.x (turn e a) (turn a b) (turn b e) br er ar
+      (identity (plus (plus (times (number b.x) ea) (times (number e.x) ab)) (times (number a.x) be)) (n_of 0) (omega arith)) (upto above) (back e b below)
+  beside (inl (al, el)) (inr (ar, br)) below above = absurd (omega (arith, ints, al, ar))
+  beside (inr (ar, er)) (inl (al, bl)) below above = absurd (omega (arith, ints, al, ar))
+
+  -- ---- what comes first
+
+  not-left : pos 0 <ℤ turn a b → ¬ (IsLeft a b)
+  not-left above (inl below) = omega (arith, ints, above, below)
+  not-left above (inr (none, ahead)) = omega (arith, ints, above, none)
+
+  -- what lies between the two
+  pub between-first : turn a e <ℤ pos 0 → turn a b <ℤ pos 0 → turn e b <ℤ pos 0 → ComesBefore a e b
+  between-first one both other = inr (inl (inl one, inl both), other)
+
+  -- where b lies on a's side, back from it: what lies clockwise from a on that side, what lies on the other, and what lies back from b
+  pub onwards-first : pos 0 <ℤ turn a b → turn a e <ℤ pos 0 → ComesBefore a e b
+  onwards-first above below = inl (inl below, not-left above)
+
+  pub beyond-first : AreBeside a b → AreOpposite a e → pos 0 <ℤ turn a b → ComesBefore a e b
+  beyond-first sides others above =
+      elim (left-or a e) [
+        | inl is ↦ inl (is, not-left above)
+        | inr isnt ↦ inr (inr (isnt, not-left above), beyond sides others above (right_signs a e isnt).0)
+      ]
+
+  pub back-first : AreBeside a e → AreBeside a b → pos 0 <ℤ turn a b → turn e b <ℤ pos 0 → ComesBefore a e b
+  back-first sides others above below = inr (inr (isnt (beside sides others below above), not-left above), below)
+    where
+      isnt : turn e a <ℤ pos 0 → ¬ (IsLeft a e)
+      isnt less (inl is) = let same = turn-back a e in omega (arith, ints, less, is, same)
+      isnt less (inr (none, ahead)) = let same = turn-back a e in omega (arith, ints, less, none, same)
+
+  -- where b lies on the other side: what lies clockwise from a on a's side, and what lies back from b on b's
+  pub behind-first : AreBeside a e → AreOpposite a b → turn a e <ℤ pos 0 → ComesBefore a e b
+  behind-first sides others below =
+      elim (left-or a b) [
+        | inl is ↦ inr (inl (inl below, is), behind sides others below (left_signs a b is).0)
+        | inr isnt ↦ inl (inl below, isnt)
+      ]
+
+  pub before-first : AreOpposite a e → AreBeside e b → turn e b <ℤ pos 0 → ComesBefore a e b
+  before-first others sides below =
+      elim (left-or a b) [
+        | inl is ↦ inr (inl (inl (before others sides below (left_signs a b is).0), is), below)
+        | inr isnt ↦ elim (left-or a e) [ inl is_too ↦ inl (is_too, isnt) | inr isnt_too ↦ inr (inr (isnt_too, isnt), below) ]
+      ]
