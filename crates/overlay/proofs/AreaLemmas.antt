@@ -7,6 +7,7 @@ pub mod Fans
 pub mod First
 pub mod Left
 pub mod Multiple
+pub mod Nearest
 pub mod Potential
 pub mod Ranges
 pub mod Rings

@@ -36,7 +36,7 @@ never : true ≡ false → ⊥
 never h = cc
 
 -- what the test of two edges tells
-told-same : (one other : Edge) (t : Bool) → is_edge one other ≡ t → MatchBool t (one ≡ other) (one ≢ other)
+pub told-same : (one other : Edge) (t : Bool) → is_edge one other ≡ t → MatchBool t (one ≡ other) (one ≢ other)
 told-same one other t is = subst (λ (s : Bool). MatchBool s (one ≡ other) (one ≢ other)) is (edge-is one other)
 
 -- an edge that isn't above counts below, or is the edge itself

@@ -66,35 +66,35 @@ way-turned at edge = by (lt_z edge.x1 edge.x0) refl
     by false is = ap (way_from at) (rightwards-right edge is)
 
 -- the way from the end at which an edge starts or ends
-way-start : (at : Point) (edge : Edge) → start_of edge ≡ at → way_from at edge ≡ direction_between at (end_of edge)
+pub way-start : (at : Point) (edge : Edge) → start_of edge ≡ at → way_from at edge ≡ direction_between at (end_of edge)
 way-start at edge is = ap₂ (λ (x y : ℤ). made x y) (rest edge.x0 edge.x1 at.x (ap (λ (p : Point). p.x) is)) (rest edge.y0 edge.y1 at.y (ap (λ (p : Point). p.y) is))
   where
     rest : (a b c : ℤ) → a ≡ c → (((a +ℤ b) -ℤ c) -ℤ c) ≡ (b -ℤ c)
     rest a b c same = omega (arith, ints, same)
 
-way-end : (at : Point) (edge : Edge) → end_of edge ≡ at → way_from at edge ≡ direction_between at (start_of edge)
+pub way-end : (at : Point) (edge : Edge) → end_of edge ≡ at → way_from at edge ≡ direction_between at (start_of edge)
 way-end at edge is = ap₂ (λ (x y : ℤ). made x y) (rest edge.x0 edge.x1 at.x (ap (λ (p : Point). p.x) is)) (rest edge.y0 edge.y1 at.y (ap (λ (p : Point). p.y) is))
   where
     rest : (a b c : ℤ) → b ≡ c → (((a +ℤ b) -ℤ c) -ℤ c) ≡ (a -ℤ c)
     rest a b c same = omega (arith, ints, same)
 
 -- The edge lies to the left of the point.
-record FromLeft (at : Point) (edge : Edge) : Type 0 where
-  ends : rightwards edge ≡ edge_between (start_of (rightwards edge)) at
-  way : way_from at edge ≡ direction_between at (start_of (rightwards edge))
-  left : (way_from at edge).x <ℤ pos 0
-  over : is_over (at.x -ℤ pos 1) (rightwards edge) ≡ true
-  done : is_over at.x (rightwards edge) ≡ false
+pub record FromLeft (at : Point) (edge : Edge) : Type 0 where
+  pub ends : rightwards edge ≡ edge_between (start_of (rightwards edge)) at
+  pub way : way_from at edge ≡ direction_between at (start_of (rightwards edge))
+  pub left : (way_from at edge).x <ℤ pos 0
+  pub over : is_over (at.x -ℤ pos 1) (rightwards edge) ≡ true
+  pub done : is_over at.x (rightwards edge) ≡ false
 
 -- It lies to the right.
-record ToRight (at : Point) (edge : Edge) : Type 0 where
-  begins : rightwards edge ≡ edge_between at (end_of (rightwards edge))
-  way : way_from at edge ≡ direction_between at (end_of (rightwards edge))
-  right : pos 0 <ℤ (way_from at edge).x
-  over : is_over at.x (rightwards edge) ≡ true
-  ahead : is_over (at.x -ℤ pos 1) (rightwards edge) ≡ false
+pub record ToRight (at : Point) (edge : Edge) : Type 0 where
+  pub begins : rightwards edge ≡ edge_between at (end_of (rightwards edge))
+  pub way : way_from at edge ≡ direction_between at (end_of (rightwards edge))
+  pub right : pos 0 <ℤ (way_from at edge).x
+  pub over : is_over at.x (rightwards edge) ≡ true
+  pub ahead : is_over (at.x -ℤ pos 1) (rightwards edge) ≡ false
 
-sided : (at : Point) (edge : Edge) → edge.x0 ≢ edge.x1 → Touches at edge → FromLeft at edge ⊎ ToRight at edge
+pub sided : (at : Point) (edge : Edge) → edge.x0 ≢ edge.x1 → Touches at edge → FromLeft at edge ⊎ ToRight at edge
 sided at edge sloped touches = by (touches-turned at edge touches) (rightwards-onwards edge sloped)
   where
     by : Touches at (rightwards edge) → (rightwards edge).x0 <ℤ (rightwards edge).x1 → FromLeft at edge ⊎ ToRight at edge
@@ -156,7 +156,7 @@ starts-apart at p q =
     (omega arith)
 
 -- to the left of the point the higher one lies clockwise from the lower one, and to the right the lower one from the higher one
-lower-left : (at : Point) (one other : Edge) → FromLeft at one → FromLeft at other → is_lower_on (at.x -ℤ pos 1) (rightwards one) (rightwards other) ≡ true → turn (way_from at one) (way_from at other) <ℤ pos 0
+pub lower-left : (at : Point) (one other : Edge) → FromLeft at one → FromLeft at other → is_lower_on (at.x -ℤ pos 1) (rightwards one) (rightwards other) ≡ true → turn (way_from at one) (way_from at other) <ℤ pos 0
 lower-left at one other is is_too lower =
     let p = start_of (rightwards one) in
     let q = start_of (rightwards other) in
@@ -168,7 +168,7 @@ lower-left at one other is is_too lower =
     let same = ap₂ (λ (d e : Direction). turn d e) is.way is_too.way in
     omega (arith, ints, less, gap, same)
 
-lower-right : (at : Point) (one other : Edge) → ToRight at one → ToRight at other → is_lower_on at.x (rightwards one) (rightwards other) ≡ true → turn (way_from at other) (way_from at one) <ℤ pos 0
+pub lower-right : (at : Point) (one other : Edge) → ToRight at one → ToRight at other → is_lower_on at.x (rightwards one) (rightwards other) ≡ true → turn (way_from at other) (way_from at one) <ℤ pos 0
 lower-right at one other is is_too lower =
     let p = end_of (rightwards one) in
     let q = end_of (rightwards other) in

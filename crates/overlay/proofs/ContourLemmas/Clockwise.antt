@@ -1,11 +1,11 @@
 -- Of ways from one point, each to the left or to the right, which one comes first clockwise.
-use Rattle.std.proofs.Common.{◌≡◌, ◌⊎◌, inl, inr, ℤ, pos, ◌+ℤ◌, ◌-ℤ◌, ◌*ℤ◌, ◌≤ℤ◌, ◌<ℤ◌, arith}
+use Rattle.std.proofs.Common.{◌≡◌, ◌⊎◌, inl, inr, ℤ, pos, ◌+ℤ◌, ◌-ℤ◌, ◌*ℤ◌, ◌≤ℤ◌, ◌<ℤ◌, ap, ◌∙◌, arith}
 use Rattle.std.proofs.lemmas.Int.{by_lt_z, ints}
 use Rattle.plane.specs.Meet.Crosses.{cross}
 use Rattle.plane.proofs.MeetLemmas.Identities.{Term, identity, minus, number, plus, times}
 use Rattle.plane.proofs.SweepLineLemmas.Gaps.{product_above}
 use Rattle.noding.proofs.SnapLemmas.Numbers.{n_of, product_positive}
-use Rattle.overlay.specs.Contours.Turns.{ComesBefore, Direction, IsLeft, dot}
+use Rattle.overlay.specs.Contours.Turns.{AreAlike, ComesBefore, Direction, IsLeft, dot}
 use Rattle.overlay.proofs.ContourLemmas.Turns.{across, left_signs, right_signs}
 
 -- Both ways go to the left, or both to the right.
@@ -23,6 +23,14 @@ turn one other = cross one.x one.y other.x other.y
 -- the other way round it is as much below 0 as it was above it
 pub turn-back : (one other : Direction) → turn one other ≡ (pos 0 -ℤ turn other one)
 turn-back one other = identity (across one.x one.y other.x other.y) (minus (n_of 0) (across other.x other.y one.x one.y)) (omega arith)
+
+-- the way against one
+abbrev reversed_way : Direction → Direction
+reversed_way way = record { x = pos 0 -ℤ way.x; y = pos 0 -ℤ way.y }
+
+turn-reversed : (one other : Direction) → turn one (reversed_way other) ≡ (pos 0 -ℤ turn one other)
+turn-reversed one other =
+    identity (minus (times (number one.x) (minus (n_of 0) (number other.y))) (times (number one.y) (minus (n_of 0) (number other.x)))) (minus (n_of 0) (across one.x one.y other.x other.y)) (omega arith)
 
 -- whether a way lies within a half turn clockwise
 pub left-or : (back way : Direction) → IsLeft back way ⊎ (¬ (IsLeft back way))
@@ -172,3 +180,180 @@ module _ (a e b : Direction) where
         | inl is ↦ inr (inl (inl (before others sides below (left_signs a b is).0), is), below)
         | inr isnt ↦ elim (left-or a e) [ inl is_too ↦ inl (is_too, isnt) | inr isnt_too ↦ inr (inr (isnt_too, isnt), below) ]
       ]
+
+-- ---- ways that go against each other
+
+-- where e goes straight against a, another way lies clockwise from one of them, by less than a half turn, and not from the other
+module _ (a e : Direction) (opposite : AreOpposite a e) (level : turn a e ≡ pos 0) where
+  none_of : (x : ℤ) → (x *ℤ turn a e) ≡ pos 0
+  none_of x = ap (λ (z : ℤ). x *ℤ z) level ∙ identity (times (number x) (n_of 0)) (n_of 0) (omega arith)
+
+  against-back : (b : Direction) → pos 0 <ℤ turn a b → turn e b <ℤ pos 0
+  against-back b above = by opposite
+    where
+      by : AreOpposite a e → turn e b <ℤ pos 0
+      by (inl (left, right)) =
+          below-others (pos 0 -ℤ a.x) (pos 1) e.x (turn e b) (pos 0) (turn a b) (omega (arith, ints, left)) (omega (arith, ints)) right
+          (identity (plus (plus (times (neg a.x) (across e.x e.y b.x b.y)) (times (n_of 1) (n_of 0))) (times (number e.x) (across a.x a.y b.x b.y))) (times (number b.x) (across a.x a.y e.x e.y)) (omega arith) ∙ none_of b.x)
+          (omega (arith, ints)) above
+      by (inr (right, left)) =
+          below-others a.x (pos 1) (pos 0 -ℤ e.x) (turn e b) (pos 0) (turn a b) right (omega (arith, ints)) (omega (arith, ints, left))
+          (identity (plus (plus (times (number a.x) (across e.x e.y b.x b.y)) (times (n_of 1) (n_of 0))) (times (neg e.x) (across a.x a.y b.x b.y))) (times (neg b.x) (across a.x a.y e.x e.y)) (omega arith) ∙ none_of (pos 0 -ℤ b.x))
+          (omega (arith, ints)) above
+
+  against-on : (b : Direction) → turn a b <ℤ pos 0 → pos 0 <ℤ turn e b
+  against-on b below =
+      let here = turn-reversed a b in
+      let there = turn-reversed e b in
+      let less = against-back (reversed_way b) (omega (arith, ints, below, here)) in
+      omega (arith, ints, less, there)
+
+-- ---- the order of ways
+
+-- The two go to different sides, or to one side in different directions.
+abbrev pub AreApart : Direction → Direction → Type 0
+AreApart one other = AreOpposite one other ⊎ (AreBeside one other × ((turn one other <ℤ pos 0) ⊎ (pos 0 <ℤ turn one other)))
+
+not-left-above : (back way : Direction) → pos 0 <ℤ turn back way → ¬ (IsLeft back way)
+not-left-above back way above (inl below) = omega (arith, ints, above, below)
+not-left-above back way above (inr (none, ahead)) = omega (arith, ints, above, none)
+
+-- of ways that aren't apart in their turns, both go to different sides
+level-opposite : (one other : Direction) → AreApart one other → turn one other ≡ pos 0 → AreOpposite one other
+level-opposite one other (inl opposite) level = opposite
+level-opposite one other (inr (beside, inl less)) level = absurd (omega (arith, ints, less, level))
+level-opposite one other (inr (beside, inr more)) level = absurd (omega (arith, ints, more, level))
+
+-- a third way goes to the side of one of them
+one-beside : (a e f : Direction) → AreOpposite e f → AreOpposite a e → ¬ (AreOpposite a f)
+one-beside a e f (inl (el, fr)) (inl (al, er)) third = omega (arith, ints, el, er)
+one-beside a e f (inl (el, fr)) (inr (ar, el_too)) (inl (al, fr_too)) = omega (arith, ints, ar, al)
+one-beside a e f (inl (el, fr)) (inr (ar, el_too)) (inr (ar_too, fl)) = omega (arith, ints, fr, fl)
+one-beside a e f (inr (er, fl)) (inr (ar, el)) third = omega (arith, ints, el, er)
+one-beside a e f (inr (er, fl)) (inl (al, er_too)) (inr (ar, fl_too)) = omega (arith, ints, ar, al)
+one-beside a e f (inr (er, fl)) (inl (al, er_too)) (inl (al_too, fr)) = omega (arith, ints, fr, fl)
+
+opposite-back : (one other : Direction) → AreOpposite one other → AreOpposite other one
+opposite-back one other (inl (left, right)) = inr (right, left)
+opposite-back one other (inr (right, left)) = inl (left, right)
+
+level-back : (one other : Direction) → turn one other ≡ pos 0 → turn other one ≡ pos 0
+level-back one other level = let is = turn-back other one in omega (arith, ints, level, is)
+
+-- of two that go straight against each other one alone lies within a half turn clockwise from a third one
+alone-left : (a e f : Direction) → AreOpposite e f → turn e f ≡ pos 0 → (turn a e <ℤ pos 0) ⊎ (pos 0 <ℤ turn a e) → ¬ (AreAlike a e f)
+alone-left a e f opposite level (inl below) = by
+  where
+    more : pos 0 <ℤ turn a f
+    more = let here = turn-back a e in let there = turn-back a f in let less = against-back e f opposite level a (omega (arith, ints, below, here)) in omega (arith, ints, less, there)
+
+    by : ¬ (AreAlike a e f)
+    by (inl (is, is_too)) = not-left-above a f more is_too
+    by (inr (isnt, isnt_too)) = isnt (inl below)
+alone-left a e f opposite level (inr above) = by
+  where
+    less : turn a f <ℤ pos 0
+    less = let here = turn-back a e in let there = turn-back a f in let more = against-on e f opposite level a (omega (arith, ints, above, here)) in omega (arith, ints, more, there)
+
+    by : ¬ (AreAlike a e f)
+    by (inl (is, is_too)) = not-left-above a e above is
+    by (inr (isnt, isnt_too)) = isnt_too (inl less)
+
+alike-back : (a e f : Direction) → AreAlike a e f → AreAlike a f e
+alike-back a e f (inl (is, is_too)) = inl (is_too, is)
+alike-back a e f (inr (isnt, isnt_too)) = inr (isnt_too, isnt)
+
+-- Of two ways one comes first, clockwise from a third one.
+pub comes-first : (a e f : Direction) → AreApart a e → AreApart a f → AreApart e f → ComesBefore a e f ⊎ ComesBefore a f e
+comes-first a e f one other both = by (left-or a e) (left-or a f)
+  where
+    never : turn e f ≡ pos 0 → ¬ (AreAlike a e f)
+    never level = go one other
+      where
+        opposite : AreOpposite e f
+        opposite = level-opposite e f both level
+
+        go : AreApart a e → AreApart a f → ¬ (AreAlike a e f)
+        go (inr (beside, turns)) second = alone-left a e f opposite level turns
+        go (inl first) (inr (beside, turns)) = λ alike. alone-left a f e (opposite-back e f opposite) (level-back e f level) turns (alike-back a e f alike)
+        go (inl first) (inl second) = absurd (one-beside a e f opposite first second)
+
+    alike : AreAlike a e f → ComesBefore a e f ⊎ ComesBefore a f e
+    alike is =
+        by_lt_z (turn e f) (pos 0) (λ less. inl (inr (is, less)))
+        (λ from. by_lt_z (pos 0) (turn e f) (λ more. inr (inr (alike-back a e f is, (let back = turn-back e f in omega (arith, ints, more, back)))))
+        (λ upto. absurd (never (omega (arith, ints, from, upto)) is)))
+
+    by : IsLeft a e ⊎ (¬ (IsLeft a e)) → IsLeft a f ⊎ (¬ (IsLeft a f)) → ComesBefore a e f ⊎ ComesBefore a f e
+    by (inl is) (inr isnt) = inl (inl (is, isnt))
+    by (inr isnt) (inl is) = inr (inl (is, isnt))
+    by (inl is) (inl is_too) = alike (inl (is, is_too))
+    by (inr isnt) (inr isnt_too) = alike (inr (isnt, isnt_too))
+
+-- whether the one comes first
+pub comes-or : (a e f : Direction) → ComesBefore a e f ⊎ (¬ (ComesBefore a e f))
+comes-or a e f = by (left-or a e) (left-or a f)
+  where
+    alike : AreAlike a e f → ComesBefore a e f ⊎ (¬ (ComesBefore a e f))
+    alike is = by_lt_z (turn e f) (pos 0) (λ less. inl (inr (is, less))) (λ from. inr (no is from))
+      where
+        no : AreAlike a e f → pos 0 ≤ℤ turn e f → ¬ (ComesBefore a e f)
+        no (inl (first, second)) from (inl (left, right)) = right second
+        no (inr (first, second)) from (inl (left, right)) = first left
+        no is from (inr (same, less)) = omega (arith, ints, from, less)
+
+    apart : ¬ (IsLeft a e) → IsLeft a f → ¬ (ComesBefore a e f)
+    apart isnt is (inl (left, right)) = isnt left
+    apart isnt is (inr (inl (left, left_too), less)) = isnt left
+    apart isnt is (inr (inr (right, right_too), less)) = right_too is
+
+    by : IsLeft a e ⊎ (¬ (IsLeft a e)) → IsLeft a f ⊎ (¬ (IsLeft a f)) → ComesBefore a e f ⊎ (¬ (ComesBefore a e f))
+    by (inl is) (inr isnt) = inl (inl (is, isnt))
+    by (inr isnt) (inl is) = inr (apart isnt is)
+    by (inl is) (inl is_too) = alike (inl (is, is_too))
+    by (inr isnt) (inr isnt_too) = alike (inr (isnt, isnt_too))
+
+-- No way comes before each of two, clockwise from the other one of these.
+pub comes-once : (a c b : Direction) → AreApart a c → AreApart a b → AreApart c b → ComesBefore a b c → ¬ (ComesBefore c b a)
+comes-once a c b both one other first second = by first second
+  where
+    -- the two go straight against each other
+    level : ¬ (IsLeft a c) → ¬ (IsLeft c a) → turn a c ≡ pos 0
+    level isnt isnt_too = let from = (right_signs a c isnt).0 in let from_too = (right_signs c a isnt_too).0 in let back = turn-back a c in omega (arith, ints, from, from_too, back)
+
+    within : IsLeft a b → IsLeft c b → ¬ (IsLeft a c) → ¬ (IsLeft c a) → ⊥
+    within is is_too isnt isnt_too = go one other
+      where
+        none : turn a c ≡ pos 0
+        none = level isnt isnt_too
+
+        opposite : AreOpposite a c
+        opposite = level-opposite a c both none
+
+        upto : turn a b ≤ℤ pos 0
+        upto = (left_signs a b is).0
+
+        upto_too : turn c b ≤ℤ pos 0
+        upto_too = (left_signs c b is_too).0
+
+        go : AreApart a b → AreApart c b → ⊥
+        go (inr (beside, inl less)) third = let more = against-on a c opposite none b less in let h = upto_too in omega (arith, ints, more, h)
+        go (inr (beside, inr more)) third = let h = upto in omega (arith, ints, more, h)
+        go (inl apart) (inr (beside, inl less)) = let more = against-on c a (opposite-back a c opposite) (level-back a c none) b less in let h = upto in omega (arith, ints, more, h)
+        go (inl apart) (inr (beside, inr more)) = let h = upto_too in omega (arith, ints, more, h)
+        go (inl apart) (inl apart_too) = one-beside b a c opposite (opposite-back a b apart) (opposite-back c b apart_too)
+
+    back : (way : Direction) → turn b way <ℤ pos 0 → pos 0 <ℤ turn way b
+    back way less = let is = turn-back b way in omega (arith, ints, less, is)
+
+    by : ComesBefore a b c → ComesBefore c b a → ⊥
+    by (inl (is, isnt)) (inl (is_too, isnt_too)) = within is is_too isnt isnt_too
+    by (inl (is, isnt)) (inr (alike, less)) = not-left-above a b (back a less) is
+    by (inr (alike, less)) (inl (is_too, isnt_too)) = not-left-above c b (back c less) is_too
+    by (inr (inl (is, is_too), less)) (inr (alike, less_too)) = not-left-above a b (back a less_too) is
+    by (inr (inr (isnt, isnt_too), less)) (inr (inl (is, is_too), less_too)) = not-left-above c b (back c less) is
+    by (inr (inr (isnt, isnt_far), less)) (inr (inr (isnt_too, isnt_back), less_too)) =
+        let none = level isnt_far isnt_back in
+        let far = against-back a c (level-opposite a c both none) none b (back a less_too) in
+        let near = back c less in
+        omega (arith, ints, far, near)
