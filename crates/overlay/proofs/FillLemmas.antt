@@ -7,6 +7,7 @@ pub mod Columns
 pub mod Filled
 pub mod High
 pub mod Kept
+pub mod Least
 pub mod Level
 pub mod Next
 pub mod Order

@@ -1,6 +1,7 @@
 -- Lemmas of how often rings wind around points.
 pub mod Corners
 pub mod Each
+pub mod Homes
 pub mod Left
 pub mod Moved
 pub mod Once

@@ -14,14 +14,16 @@ use Rattle.overlay.specs.Fill.Filled.{AreDistinct, AreNoded, HaveSameEnds}
 use Rattle.overlay.specs.Fill.Pieces.{total, weight}
 use Rattle.overlay.proofs.AreaLemmas.Beneath.{beneath, is_upto_point, not_above}
 use Rattle.overlay.proofs.AreaLemmas.Left.{along, is_edge, just_above, just_below, upto_on}
-use Rattle.overlay.proofs.AreaLemmas.Touching.{Away, Touches, and-alike, and-never, aside_g, below-off, no-beneath, not-above-off, touches-or, upto-off, upto-touching}
+use Rattle.overlay.proofs.AreaLemmas.Touching.{Away, Touches, and-alike, and-never, below-off, lower-off, no-beneath, not-above-off, touches-or, upto-off, upto-touching}
 use Rattle.overlay.proofs.FillLemmas.Along.{count-along}
-use Rattle.overlay.proofs.FillLemmas.Aside.{IsAside}
+use Rattle.overlay.proofs.FillLemmas.Aside.{IsAside, aside}
 use Rattle.overlay.proofs.FillLemmas.Balance.{AreBalanced}
+use Rattle.overlay.proofs.FillLemmas.Level.{MeetOnly}
 use Rattle.overlay.proofs.FillLemmas.Order.{lower-apart, lower-asym, lower-irrefl, lower-trans}
 use Rattle.overlay.proofs.FillLemmas.Premises.{All-among}
 use Rattle.overlay.proofs.FillLemmas.Tests.{over_is}
 use Rattle.overlay.proofs.FillLemmas.Totals.{total-same, total-sum}
+use Rattle.overlay.proofs.FillLemmas.Uncrossed.{MeetOnly-exchanged, MeetOnly-rightwards}
 use Rattle.overlay.proofs.KeptLemmas.First.{total-one, turned-meet, turned-same}
 use Rattle.overlay.proofs.PieceLemmas.Edges.{edge-is}
 use Rattle.overlay.proofs.PieceLemmas.Made.{rightwards-onwards}
@@ -97,6 +99,52 @@ module _ (edges : List Edge) (noded : AreNoded edges) (one : Edge) (among : Cont
       total-same (upto_on x r) (λ edge. below_on x r edge +ℤ along r edge) mine (All-among (λ edge. upto_on x r edge ≡ (below_on x r edge +ℤ along r edge)) mine (λ edge held. parts edge (into edge held)))
       ∙ total-sum (below_on x r) (along r) mine
 
+  module _ (mine : List Edge) (closed : AreBalanced mine) (into : (edge : Edge) → Contains mine edge → Contains edges edge) where
+    -- What is just below it, told over this stretch.
+    pub here : just_below mine one ≡ total (below_on x r) mine
+    here =
+        let span = over_is x r over in
+        sym (count-along r x mine closed (All-among (IsAside r) mine (λ edge held. aside r edge (meets edge (into edge held)))) span.0 span.1)
+      where
+        meets : (edge : Edge) → Contains edges edge → MeetOnly edge r
+        meets edge inside = MeetOnly-exchanged r edge (MeetOnly-rightwards one edge (λ point of_one of_edge. noded one edge point among inside of_one of_edge))
+
+    -- What is just above it.
+    pub above : just_above mine one ≡ total (upto_on x r) mine
+    above = ap (λ (z : ℤ). z +ℤ total (along r) mine) here ∙ sym (upto-parts mine into)
+
+-- ---- between two edges
+
+module _ (edges : List Edge) (noded : AreNoded edges) (sloped : All (λ edge. edge.x0 ≢ edge.x1) edges) (mine : List Edge) (closed : AreBalanced mine) (into : (edge : Edge) → Contains mine edge → Contains edges edge) where
+  -- Where over a stretch none is between the two, they wind just above the lower one as just below the other.
+  pub between : (one other : Edge) → Contains edges one → Contains edges other → (x : ℤ) → is_over x (rightwards one) ≡ true → is_over x (rightwards other) ≡ true → is_lower_on x (rightwards one) (rightwards other) ≡ true
+      → ((edge : Edge) → Contains edges edge → is_over x (rightwards edge) ≡ true → is_lower_on x (rightwards one) (rightwards edge) ≡ true → ¬ (is_lower_on x (rightwards edge) (rightwards other) ≡ true))
+      → just_above mine one ≡ just_below mine other
+  between one other among among_too x over over_too less none =
+      above edges noded one among x over mine closed into
+      ∙ total-same (upto_on x (rightwards one)) (below_on x (rightwards other)) mine
+      (All-among (λ edge. upto_on x (rightwards one) edge ≡ below_on x (rightwards other) edge) mine
+      (λ edge held.
+      ap (λ t. cond t (weight edge) (pos 0)) (and-alike (is_over x (rightwards edge)) (not (is_lower_on x (rightwards one) (rightwards edge))) (is_lower_on x (rightwards edge) (rightwards other))
+      (λ over_it. by edge (into edge held) over_it (is_lower_on x (rightwards one) (rightwards edge)) refl))))
+      ∙ sym (here edges noded other among_too x over_too mine closed into)
+    where
+      onwards : (edge : Edge) → Contains edges edge → (rightwards edge).x0 <ℤ (rightwards edge).x1
+      onwards edge inside = rightwards-onwards edge (All-contains (λ (e : Edge). e.x0 ≢ e.x1) edges edge sloped inside)
+
+      lower : (edge : Edge) → Contains edges edge → is_over x (rightwards edge) ≡ true → is_lower_on x (rightwards one) (rightwards edge) ≡ false → (t : Bool) → is_edge (rightwards edge) (rightwards one) ≡ t
+          → is_lower_on x (rightwards edge) (rightwards other) ≡ true
+      lower edge inside over_it isnt true is = subst (λ (r : Edge). is_lower_on x r (rightwards other) ≡ true) (sym (told-same (rightwards edge) (rightwards one) true is)) less
+      lower edge inside over_it isnt false is =
+          elim (lower-apart (rightwards edge) (rightwards one) x (turned-meet edges noded edge one inside among) (told-same (rightwards edge) (rightwards one) false is) over_it over) [
+            | inl below ↦ lower-trans x (rightwards edge) (rightwards one) (rightwards other) (onwards edge inside) (onwards one among) (onwards other among_too) below less
+            | inr higher ↦ absurd (never (sym higher ∙ isnt))
+          ]
+
+      by : (edge : Edge) → Contains edges edge → is_over x (rightwards edge) ≡ true → (t : Bool) → is_lower_on x (rightwards one) (rightwards edge) ≡ t → not (is_lower_on x (rightwards one) (rightwards edge)) ≡ is_lower_on x (rightwards edge) (rightwards other)
+      by edge inside over_it true is = ap not is ∙ sym (not-true (is_lower_on x (rightwards edge) (rightwards other)) (none edge inside over_it is))
+      by edge inside over_it false is = ap not is ∙ sym (lower edge inside over_it is (is_edge (rightwards edge) (rightwards one)) refl)
+
 -- ---- at a point
 
 module _ (edges : List Edge) (noded : AreNoded edges) (sloped : All (λ edge. edge.x0 ≢ edge.x1) edges) (mine : List Edge) (closed : AreBalanced mine) (into : (edge : Edge) → Contains mine edge → Contains edges edge) (at : Point) where
@@ -117,20 +165,10 @@ module _ (edges : List Edge) (noded : AreNoded edges) (sloped : All (λ edge. ed
       abbrev g : Edge
       g = rightwards one
 
-      -- what is just below it
-      here : just_below mine one ≡ total (below_on x g) mine
-      here =
-          let span = over_is x g over in
-          sym (count-along g x mine closed (All-among (IsAside g) mine (λ edge held. aside_g edges noded sloped at one among touches edge (into edge held))) span.0 span.1)
-
-      -- what is just above it
-      above : just_above mine one ≡ total (upto_on x g) mine
-      above = ap (λ (z : ℤ). z +ℤ total (along g) mine) here ∙ sym (upto-parts edges noded one among x over mine into)
-
       -- Of all that touch the point none is lower there.
       pub lowest : ((edge : Edge) → Contains edges edge → Touches at edge → is_over x (rightwards edge) ≡ true → ¬ (is_lower_on x (rightwards edge) g ≡ true)) → just_below mine one ≡ total (beneath at x) mine
       lowest none =
-          here
+          here edges noded one among x over mine closed into
           ∙ each (below_on x g) (beneath at x)
           (λ edge inside touching.
           ap (λ t. cond t (weight edge) (pos 0)) (and-never (is_over x (rightwards edge)) (is_lower_on x (rightwards edge) g) (λ over_too. not-true (is_lower_on x (rightwards edge) g) (none edge inside touching over_too)))
@@ -140,39 +178,22 @@ module _ (edges : List Edge) (noded : AreNoded edges) (sloped : All (λ edge. ed
       -- None is higher.
       pub highest : ((edge : Edge) → Contains edges edge → Touches at edge → is_over x (rightwards edge) ≡ true → ¬ (is_lower_on x g (rightwards edge) ≡ true)) → just_above mine one ≡ total (not_above at x) mine
       highest none =
-          above
+          above edges noded one among x over mine closed into
           ∙ each (upto_on x g) (not_above at x)
           (λ edge inside touching.
           ap (λ t. cond t (weight edge) (pos 0)) (and-alike (is_over x (rightwards edge)) (not (is_lower_on x g (rightwards edge))) (is_upto_point at (rightwards edge))
           (λ over_too. ap not (not-true (is_lower_on x g (rightwards edge)) (none edge inside touching over_too)) ∙ sym (upto-touching at edge touching))))
           (λ edge inside away. upto-off edges noded sloped at one among touches x side over edge inside away ∙ sym (not-above-off edges noded sloped at one among touches x side edge inside away))
 
-  -- None is between the two.
+  -- None of all that touch the point is between the two.
   pub next : (one other : Edge) → Contains edges one → Contains edges other → Touches at one → Touches at other → (x : ℤ) → (at.x ≡ x) ⊎ (at.x ≡ (x +ℤ pos 1)) → is_over x (rightwards one) ≡ true → is_over x (rightwards other) ≡ true
       → is_lower_on x (rightwards one) (rightwards other) ≡ true
       → ((edge : Edge) → Contains edges edge → Touches at edge → is_over x (rightwards edge) ≡ true → is_lower_on x (rightwards one) (rightwards edge) ≡ true → ¬ (is_lower_on x (rightwards edge) (rightwards other) ≡ true))
       → just_above mine one ≡ just_below mine other
   next one other among among_too touches touches_too x side over over_too less none =
-      above one among touches x side over
-      ∙ each (upto_on x (rightwards one)) (below_on x (rightwards other))
-      (λ edge inside touching.
-      ap (λ t. cond t (weight edge) (pos 0)) (and-alike (is_over x (rightwards edge)) (not (is_lower_on x (rightwards one) (rightwards edge))) (is_lower_on x (rightwards edge) (rightwards other))
-      (λ over_it. by edge inside touching over_it (is_lower_on x (rightwards one) (rightwards edge)) refl)))
-      (λ edge inside away. upto-off edges noded sloped at one among touches x side over edge inside away ∙ sym (below-off edges noded sloped at other among_too touches_too x side over_too edge inside away))
-      ∙ sym (here other among_too touches_too x side over_too)
-    where
-      onwards : (edge : Edge) → Contains edges edge → (rightwards edge).x0 <ℤ (rightwards edge).x1
-      onwards edge inside = rightwards-onwards edge (All-contains (λ (e : Edge). e.x0 ≢ e.x1) edges edge sloped inside)
-
-      lower : (edge : Edge) → Contains edges edge → is_over x (rightwards edge) ≡ true → is_lower_on x (rightwards one) (rightwards edge) ≡ false → (t : Bool) → is_edge (rightwards edge) (rightwards one) ≡ t
-          → is_lower_on x (rightwards edge) (rightwards other) ≡ true
-      lower edge inside over_it isnt true is = subst (λ (r : Edge). is_lower_on x r (rightwards other) ≡ true) (sym (told-same (rightwards edge) (rightwards one) true is)) less
-      lower edge inside over_it isnt false is =
-          elim (lower-apart (rightwards edge) (rightwards one) x (turned-meet edges noded edge one inside among) (told-same (rightwards edge) (rightwards one) false is) over_it over) [
-            | inl below ↦ lower-trans x (rightwards edge) (rightwards one) (rightwards other) (onwards edge inside) (onwards one among) (onwards other among_too) below less
-            | inr higher ↦ absurd (never (sym higher ∙ isnt))
-          ]
-
-      by : (edge : Edge) → Contains edges edge → Touches at edge → is_over x (rightwards edge) ≡ true → (t : Bool) → is_lower_on x (rightwards one) (rightwards edge) ≡ t → not (is_lower_on x (rightwards one) (rightwards edge)) ≡ is_lower_on x (rightwards edge) (rightwards other)
-      by edge inside touching over_it true is = ap not is ∙ sym (not-true (is_lower_on x (rightwards edge) (rightwards other)) (none edge inside touching over_it is))
-      by edge inside touching over_it false is = ap not is ∙ sym (lower edge inside over_it is (is_edge (rightwards edge) (rightwards one)) refl)
+      between edges noded sloped mine closed into one other among among_too x over over_too less
+      (λ edge inside over_it low_one low_other. elim (touches-or at edge) [
+        | inl touching ↦ none edge inside touching over_it low_one low_other
+        | inr away ↦ never (sym low_other ∙ (lower-off edges noded sloped at other among_too touches_too x side over_too edge inside away over_it
+            ∙ sym (lower-off edges noded sloped at one among touches x side over edge inside away over_it)) ∙ lower-asym x (rightwards one) (rightwards edge) low_one)
+      ])

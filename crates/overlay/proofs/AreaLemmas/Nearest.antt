@@ -1,9 +1,8 @@
 -- Around a point each of the edges that have it as an end has one next edge clockwise, and is that of one edge alone.
-use Rattle.std.proofs.Common.{◌≡◌, ◌≢◌, ◌⊎◌, inl, inr, ℕ, zero, suc, ℤ, pos, ◌-ℤ◌, ◌<ℤ◌, Bool, true, false, List, [], ◌∷◌, refl, ap, sym, subst, ◌∙◌, arith}
+use Rattle.std.proofs.Common.{◌≡◌, ◌≢◌, ◌⊎◌, inl, inr, ℕ, ℤ, pos, ◌-ℤ◌, ◌<ℤ◌, Bool, true, false, List, refl, ap, sym, subst, ◌∙◌, arith}
 use Rattle.std.specs.List.{All, Contains}
 use Rattle.std.proofs.lemmas.Int.{ints}
 use Rattle.std.proofs.lemmas.List.Elements.{All-contains, Contains-get_or}
-use Rattle.i_tree.proofs.RootLemmas.Lists.{Contains-here, Contains-there}
 use Rattle.plane.specs.declared.edge.Edge.{Edge}
 use Rattle.plane.specs.declared.point.Point.{Point}
 use Rattle.plane.specs.Ends.{end_of, start_of}
@@ -20,6 +19,7 @@ use Rattle.overlay.proofs.ContourLemmas.Clockwise.{AreApart, comes-first, comes-
 use Rattle.overlay.proofs.ContourLemmas.Counts.{is_at, is_at-itself, is_at-other}
 use Rattle.overlay.proofs.ContourLemmas.Turns.{ComesBefore-itself, ComesBefore-trans}
 use Rattle.overlay.proofs.FillLemmas.Balance.{AreBalanced, carried}
+use Rattle.overlay.proofs.FillLemmas.Least.{first-of}
 use Rattle.overlay.proofs.FillLemmas.Order.{lower-apart}
 use Rattle.overlay.proofs.GroupingLemmas.Outlined.{same-one}
 use Rattle.overlay.proofs.KeptLemmas.First.{total-one, turned-meet, turned-same}
@@ -157,11 +157,6 @@ module _ (edges : List Edge) (noded : AreNoded edges) (distinct : AreDistinct ed
             gone (inl starts) = away.0 starts
             gone (inr ends) = away.1 ends
 
-    -- the first one of some edges
-    record IsFirstOf (some : List Edge) (edge : Edge) : Type 0 where
-      is : IsOther edge
-      none : (other : Edge) → Contains some other → IsOther other → ¬ (ComesBefore (way one) (way other) (way edge))
-
     steep : ((way one).x ≡ pos 0) × ((way one).y ≡ pos 0) → ⊥
     steep none = by (sided at one (has-slope one among) touches) none.0
       where
@@ -169,47 +164,8 @@ module _ (edges : List Edge) (noded : AreNoded edges) (distinct : AreDistinct ed
         by (inl left) level = let less = left.left in omega (arith, ints, less, level)
         by (inr right) level = let more = right.right in omega (arith, ints, more, level)
 
-    first-of : (some : List Edge) → ((edge : Edge) → Contains some edge → Contains edges edge) → ((edge : Edge) × IsFirstOf some edge) ⊎ ((edge : Edge) → Contains some edge → ¬ (IsOther edge))
-    first-of [] all = inr (λ edge held. nothing edge held)
-      where
-        nothing : (edge : Edge) → Contains [] edge → ¬ (IsOther edge)
-        nothing edge (k, within, is) = absurd (omega (arith, within))
-    first-of (edge ∷ some) all = by (other-or edge (all edge (Contains-here edge some))) (first-of some (λ other held. all other (Contains-there edge some other held)))
-      where
-        -- what holds of the first one and of the others
-        both : (P : Edge → Type 0) → P edge → ((other : Edge) → Contains some other → P other) → (other : Edge) → Contains (edge ∷ some) other → P other
-        both P here there other (zero, within, is) = subst P is here
-        both P here there other (suc k, within, is) = there other (k, omega (arith, within), is)
-
-        taken : IsOther edge → (best : Edge) → IsFirstOf some best → ComesBefore (way one) (way edge) (way best) ⊎ (¬ (ComesBefore (way one) (way edge) (way best))) → (first : Edge) × IsFirstOf (edge ∷ some) first
-        taken is best first (inl before) = (
-          edge,
-          record {
-            is = is;
-            none = both (λ other. IsOther other → ¬ (ComesBefore (way one) (way other) (way edge))) (λ is_it comes. ComesBefore-itself (way one) (way edge) comes)
-                (λ other held is_it comes. first.none other held is_it (ComesBefore-trans (way one) (way other) (way edge) (way best) steep comes before));
-          },
-        )
-        taken is best first (inr after) = (
-          best,
-          record { is = first.is; none = both (λ other. IsOther other → ¬ (ComesBefore (way one) (way other) (way best))) (λ is_it comes. after comes) first.none },
-        )
-
-        by : IsOther edge ⊎ (¬ (IsOther edge)) → ((best : Edge) × IsFirstOf some best) ⊎ ((other : Edge) → Contains some other → ¬ (IsOther other))
-            → ((first : Edge) × IsFirstOf (edge ∷ some) first) ⊎ ((other : Edge) → Contains (edge ∷ some) other → ¬ (IsOther other))
-        by (inl is) (inl (best, first)) = inl (taken is best first (comes-or (way one) (way edge) (way best)))
-        by (inl is) (inr none) = inl (
-          edge,
-          record {
-            is = is;
-            none = both (λ other. IsOther other → ¬ (ComesBefore (way one) (way other) (way edge))) (λ is_it comes. ComesBefore-itself (way one) (way edge) comes) (λ other held is_it comes. none other held is_it);
-          },
-        )
-        by (inr isnt) (inl (best, first)) = inl (
-          best,
-          record { is = first.is; none = both (λ other. IsOther other → ¬ (ComesBefore (way one) (way other) (way best))) (λ is_it comes. isnt is_it) first.none },
-        )
-        by (inr isnt) (inr none) = inr (both (λ other. ¬ (IsOther other)) isnt none)
+    abbrev Before : Edge → Edge → Type 0
+    Before edge other = ComesBefore (way one) (way edge) (way other)
 
     -- where no other edge had the point as an end, the edges wouldn't be closed
     some-other : AreBalanced edges → ((edge : Edge) → Contains edges edge → ¬ (IsOther edge)) → ⊥
@@ -245,7 +201,8 @@ module _ (edges : List Edge) (noded : AreNoded edges) (distinct : AreDistinct ed
     -- Of closed edges each that has the point as an end has a next one clockwise.
     pub next-some : AreBalanced edges → (other : Edge) × IsNextAround edges at one other
     next-some closed =
-        elim (first-of edges (λ edge held. held)) [
+        elim (first-of IsOther Before (λ edge other is is_too. comes-or (way one) (way edge) (way other)) (λ edge is. ComesBefore-itself (way one) (way edge))
+        (λ edge other third is is_too is_third. ComesBefore-trans (way one) (way edge) (way other) (way third) steep) edges other-or) [
           | inl (other, first) ↦ (
             other,
             record {

@@ -222,10 +222,6 @@ module _ (edges : List Edge) (noded : AreNoded edges) (sloped : All (λ edge. ed
   meets_g : (edge : Edge) → Contains edges edge → MeetOnly edge g
   meets_g edge inside = MeetOnly-exchanged g edge (MeetOnly-rightwards one edge (meet one edge among inside))
 
-  -- so they keep off its inside
-  pub aside_g : (edge : Edge) → Contains edges edge → IsAside g edge
-  aside_g edge inside = aside g edge (meets_g edge inside)
-
   -- the point isn't inside any of them
   off : (edge : Edge) → Contains edges edge → IsOff (rightwards edge) at.x at.y
   off edge inside = by touches
@@ -260,7 +256,7 @@ module _ (edges : List Edge) (noded : AreNoded edges) (sloped : All (λ edge. ed
 
     module _ (over : is_over x g ≡ true) where
       -- it is below g where it passes below the point
-      lower-off : (edge : Edge) → Contains edges edge → Away at edge → is_over x (rightwards edge) ≡ true → is_lower_on x (rightwards edge) g ≡ is_below_point at (rightwards edge)
+      pub lower-off : (edge : Edge) → Contains edges edge → Away at edge → is_over x (rightwards edge) ≡ true → is_lower_on x (rightwards edge) g ≡ is_below_point at (rightwards edge)
       lower-off edge inside away is_over_too =
           lower-beneath (rightwards edge) g at x side is_over_too over (uncrossed_from edge g (onwards one among) (uncrossed edge g (meets_g edge inside))) (level-touching at g (touches-turned at one touches)) (clear edge inside away is_over_too)
 
