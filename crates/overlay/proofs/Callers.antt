@@ -30,6 +30,8 @@ pub use Rattle.overlay.proofs.AreaLemmas.Left.{just_above, left_of, right_of}
 pub use Rattle.overlay.proofs.AreaLemmas.Nearest.{leftmost-next, next-alone, next-once, next-some}
 pub use Rattle.overlay.proofs.AreaLemmas.Wedges.{IsNextAround, clockwise_of, counter_of, same-between}
 pub use Rattle.overlay.proofs.WindsLemmas.Corners.{ends-next, left-alike, left-once, right-none, starts-next}
+-- So a walk keeps to pairs: of the edges that end at a point each is walked exactly if the next one is.
+pub use Rattle.overlay.proofs.WindsLemmas.Pairs.{ArePairsBut, HasCome, IsNextPlace, goes-off, goes-on, pairs-back, pairs-begin, pairs-end, pairs-first}
 -- Of polygons that wind once around a point or not at all each does by itself, where the edge just below a leftwards one is of the
 -- same polygon.
 pub use Rattle.overlay.proofs.WindsLemmas.Each.{IsNextBelow}

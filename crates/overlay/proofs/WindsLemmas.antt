@@ -6,5 +6,6 @@ pub mod Left
 pub mod Moved
 pub mod Once
 pub mod Paired
+pub mod Pairs
 pub mod Polygons
 pub mod Rings

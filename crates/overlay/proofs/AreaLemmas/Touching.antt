@@ -42,7 +42,7 @@ same-point p q level even = ap₂ (λ (x y : ℤ). made x y) level even
     made : ℤ → ℤ → Point
     made x y = record { x = x; y = y }
 
-point-or : (p q : Point) → (p ≡ q) ⊎ (p ≢ q)
+pub point-or : (p q : Point) → (p ≡ q) ⊎ (p ≢ q)
 point-or p q = by (int_eq p.x q.x) (int_eq p.y q.y) refl refl
   where
     by : (s t : Bool) → int_eq p.x q.x ≡ s → int_eq p.y q.y ≡ t → (p ≡ q) ⊎ (p ≢ q)
