@@ -5,6 +5,7 @@ pub mod Beneath
 pub mod Directed
 pub mod Fans
 pub mod First
+pub mod Leant
 pub mod Left
 pub mod Multiple
 pub mod Nearest

@@ -25,8 +25,10 @@ pub use Rattle.overlay.proofs.WindsLemmas.Once.{winds-directed}
 pub use Rattle.overlay.proofs.WindsLemmas.Rings.{boundary-once}
 -- Around a point nothing changes from one edge to the next: what some of the edges wind just clockwise of one they wind just
 -- counterclockwise of the next. Where the edges wind once around a point or not at all, those that end there and those that start
--- there take turns. Each has one next edge, which is that of no other one; and along that edge a walk goes on.
+-- there take turns. Each has one next edge, which is that of no other one; and along that edge a walk goes on, also
+-- where all are sheared.
 pub use Rattle.overlay.proofs.AreaLemmas.Left.{just_above, left_of, right_of}
+pub use Rattle.overlay.proofs.AreaLemmas.Leant.{leftmost-sheared}
 pub use Rattle.overlay.proofs.AreaLemmas.Nearest.{leftmost-next, next-alone, next-once, next-some}
 pub use Rattle.overlay.proofs.AreaLemmas.Wedges.{IsNextAround, clockwise_of, counter_of, same-between}
 pub use Rattle.overlay.proofs.WindsLemmas.Corners.{ends-next, left-alike, left-once, right-none, starts-next}
