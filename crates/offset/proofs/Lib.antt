@@ -3,6 +3,7 @@ pub mod CircleLemmas
 pub mod CoverLemmas
 pub mod DiamondLemmas
 pub mod ErosionLemmas
+pub mod JoinLemmas
 pub mod LineLemmas
 pub mod OffsetLemmas
 pub mod OppositeLemmas

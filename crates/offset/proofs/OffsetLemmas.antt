@@ -19,7 +19,7 @@ use Rattle.overlay.proofs.FillLemmas.Premises.{All-among}
 use Rattle.overlay.proofs.GroupingLemmas.Bags.{Contains-flat_map, Contains-in_flat_map}
 use Rattle.offset.specs.Raw.{GoesThrough, fan, furthest, is_furthest, is_of_fan, moved, moved_edge, raw_edges}
 use Rattle.offset.specs.Shape.{IsConvexAroundOrigin, neighbours, sides, turn}
-use Rattle.offset.specs.Sum.{IsOfSumBeyond}
+use Rattle.offset.specs.Sum.{IsOfSum, IsOfSumBeyond}
 use Rattle.offset.proofs.CoverLemmas.Cover.{IsCovered, IsKnown, IsRound, LastOfSide, RightOfInner, covered}
 use Rattle.offset.proofs.CoverLemmas.Lines.{generic-off, left-of_band, left-of_triangle, lines, lines_of, lines_of_two}
 use Rattle.offset.proofs.CoverLemmas.Reached.{reached}
@@ -228,3 +228,11 @@ module _ (corners : List Point) (convex : IsConvexAroundOrigin corners) (rings :
       never : (e r : ℤ) → (e ≡ bounds.outer) ⊎ (e ≡ (bounds.outer +ℤ pos 1)) → e ≤ℤ r → r ≤ℤ bounds.outer → r ≡ bounds.outer
       never e r (inl none) from upto = omega (arith, ints, none, from, upto)
       never e r (inr one) from upto = absurd (omega (arith, ints, one, from, upto))
+
+-- Where the rings wind around nothing outside, it winds around the points of the sum, and around no others.
+pub winds-only : (corners : List Point) → IsConvexAroundOrigin corners → (rings : List (List Point)) (bounds : BoundOnce (flat_map ring_edges rings)) → bounds.outer ≡ pos 0 → (point : RationalPoint)
+    → All (λ edge. ¬ (GoesThrough edge point)) (raw_edges corners rings)
+    → (IsOfSum (flat_map ring_edges rings) corners point × (pos 0 <ℤ winding (raw_edges corners rings) point)) ⊎ ((¬ (IsOfSum (flat_map ring_edges rings) corners point)) × (winding (raw_edges corners rings) point ≡ pos 0))
+winds-only corners convex rings bounds outside point off =
+    subst (λ (outer : ℤ). (IsOfSumBeyond outer (flat_map ring_edges rings) corners point × (outer <ℤ winding (raw_edges corners rings) point)) ⊎ ((¬ (IsOfSumBeyond outer (flat_map ring_edges rings) corners point)) × (winding (raw_edges corners rings) point ≡ outer)))
+    outside (winds-sum corners convex rings bounds point off)

@@ -27,12 +27,12 @@ use Rattle.overlay.proofs.GroupingLemmas.Grouped.{map-joined}
 use Rattle.overlay.proofs.GroupingLemmas.Outlined.{outlines-run, polygons-outlined}
 use Rattle.overlay.proofs.OverlayLemmas.{exact-real}
 use Rattle.offset.specs.Faults.{IsPointFault, IsRawFault}
-use Rattle.offset.specs.Minkowski.{IsErosion, IsErosionFault, IsGrown, IsMinkowski, IsShrunk, IsSumFault, IsWound}
-use Rattle.offset.specs.Lines.{AreGrownLines, raw_of_paths}
-use Rattle.offset.specs.Raw.{raw_edges, raw_inside}
+use Rattle.offset.specs.Minkowski.{IsAround, IsErosion, IsErosionFault, IsGrown, IsMinkowski, IsShrunk, IsSumFault, IsWound}
+use Rattle.offset.specs.Lines.{AreGrownLines, IsOfPaths, raw_of_paths}
+use Rattle.offset.specs.Raw.{GoesThrough, raw_edges, raw_inside}
 use Rattle.offset.specs.Shape.{IsConvexAroundOrigin, opposite_shape}
-use Rattle.offset.specs.Sum.{IsOfErosion, IsOfSum, IsOfSumBeyond}
-use Rattle.offset.proofs.OffsetLemmas.{winds-sum}
+use Rattle.offset.specs.Sum.{IsOfErosion, IsOfSum, IsOfSumWith}
+use Rattle.offset.proofs.OffsetLemmas.{winds-only}
 use Rattle.offset.proofs.ErosionLemmas.{winds-erosion}
 use Rattle.offset.proofs.LineLemmas.Lines.{paths-cover, paths-natural, paths-sum}
 use Rattle.offset.proofs.RawLemmas.{fails-lt, passes-lt}
@@ -81,7 +81,7 @@ fails-turned rule edges corners Range is = inl is
 fails-turned rule edges corners OutOfMemory is = is
 
 -- Rings that bound a result bound it once, and wind around nothing outside.
-abbrev bound-once : (rule : FillRule) (operation : Operation) (subject clip : List Edge) (rings : List (List Point)) → IsBoundary rule operation subject clip rings → BoundOnce (flat_map ring_edges rings)
+abbrev pub bound-once : (rule : FillRule) (operation : Operation) (subject clip : List Edge) (rings : List (List Point)) → IsBoundary rule operation subject clip rings → BoundOnce (flat_map ring_edges rings)
 bound-once rule operation subject clip rings is = record {
   closed = λ test. rings-closed test rings;
   noded = is.bounds.noded;
@@ -91,20 +91,20 @@ bound-once rule operation subject clip rings is = record {
   once = winds-once rule operation subject clip (flat_map ring_edges rings) is.bounds.everywhere;
 }
 
--- What the raw curve winds around is the sum.
-sum-of : (corners : List Point) → IsConvexAroundOrigin corners → (rings : List (List Point)) (bounds : BoundOnce (flat_map ring_edges rings)) → bounds.outer ≡ pos 0 → (polygons : List (List (List Point))) → IsWound NonZero (raw_edges corners rings) polygons
-    → IsMinkowski corners (flat_map ring_edges rings) (raw_edges corners rings) polygons
-sum-of corners convex rings bounds outside polygons wound = record {
+-- Polygons around what a curve winds around are around a region, where the curve winds around its points, and around no others.
+pub around-of : (region : RationalPoint → Type 0) (raw : List Edge) (polygons : List (List (List Point))) → IsWound NonZero raw polygons
+    → ((point : RationalPoint) → All (λ edge. ¬ (GoesThrough edge point)) raw → (region point × (pos 0 <ℤ winding raw point)) ⊎ ((¬ (region point)) × (winding raw point ≡ pos 0)))
+    → IsAround region raw polygons
+around-of region raw polygons wound winds = record {
   each = wound.each;
   three_points = wound.three_points;
   directed = wound.directed;
   areas = wound.areas;
   once = wound.once;
   exact = λ point off exactly. ⊎_elim
-      (λ (found : IsOfSum (flat_map ring_edges rings) corners point × (pos 0 <ℤ winding (raw_edges corners rings) point)). inl (found.0, wound.exact point exactly ∙ one (winding (raw_edges corners rings) point) found.1))
-      (λ (left : (¬ (IsOfSum (flat_map ring_edges rings) corners point)) × (winding (raw_edges corners rings) point ≡ pos 0)). inr (left.0, wound.exact point exactly ∙ none (winding (raw_edges corners rings) point) left.1))
-      (subst (λ (outer : ℤ). (IsOfSumBeyond outer (flat_map ring_edges rings) corners point × (outer <ℤ winding (raw_edges corners rings) point)) ⊎ ((¬ (IsOfSumBeyond outer (flat_map ring_edges rings) corners point)) × (winding (raw_edges corners rings) point ≡ outer)))
-      outside (winds-sum corners convex rings bounds point off));
+      (λ (found : region point × (pos 0 <ℤ winding raw point)). inl (found.0, wound.exact point exactly ∙ one (winding raw point) found.1))
+      (λ (left : (¬ (region point)) × (winding raw point ≡ pos 0)). inr (left.0, wound.exact point exactly ∙ none (winding raw point) left.1))
+      (winds point off);
 }
   where
     one : (w : ℤ) → pos 0 <ℤ w → count (is_result NonZero Union w (pos 0)) ≡ pos 1
@@ -112,6 +112,12 @@ sum-of corners convex rings bounds outside polygons wound = record {
 
     none : (w : ℤ) → w ≡ pos 0 → count (is_result NonZero Union w (pos 0)) ≡ pos 0
     none w is = ap (λ z. count (is_result NonZero Union z (pos 0))) is
+
+-- What the raw curve winds around is the sum.
+sum-of : (corners : List Point) → IsConvexAroundOrigin corners → (rings : List (List Point)) (bounds : BoundOnce (flat_map ring_edges rings)) → bounds.outer ≡ pos 0 → (polygons : List (List (List Point))) → IsWound NonZero (raw_edges corners rings) polygons
+    → IsMinkowski corners (flat_map ring_edges rings) (raw_edges corners rings) polygons
+sum-of corners convex rings bounds outside polygons wound =
+    around-of (λ (point : RationalPoint). IsOfSum (flat_map ring_edges rings) corners point) (raw_edges corners rings) polygons wound (λ point off. winds-only corners convex rings bounds outside point off)
 
 -- What the inside grows to, from the raw curve of rings that bound it.
 pub grown : (rule : FillRule) (edges : List Edge) (corners : List Point) → IsConvexAroundOrigin corners → (rings : List (List Point)) (raw : List Edge) (polygons : List (List (List Point))) → IsBoundary rule Union (real_edges edges) [] rings → raw ≡ raw_edges corners rings → IsWound NonZero raw polygons → IsGrown rule edges corners polygons
@@ -158,26 +164,14 @@ shrunk rule edges corners convex rings raw polygons bounds is wound = record {
 pub grown-lines : (corners : List Point) → IsConvexAroundOrigin corners → (paths : List (List Point)) (raw : List Edge) (polygons : List (List (List Point))) → raw ≡ raw_of_paths corners paths → IsWound NonZero raw polygons → AreGrownLines paths corners polygons
 grown-lines corners convex paths raw polygons is wound = record {
   wound = there;
-  sum = record {
-    each = there.each;
-    three_points = there.three_points;
-    directed = there.directed;
-    areas = there.areas;
-    once = there.once;
-    exact = λ point off exactly. by_lt_z (pos 0) (winding (raw_of_paths corners paths) point)
-        (λ above. inl (paths-sum corners convex point paths (λ none. omega (arith, ints, above, none)), there.exact point exactly ∙ one (winding (raw_of_paths corners paths) point) above))
-        (λ upto. inr ((λ sum. let above = paths-cover corners convex point paths off sum in omega (arith, ints, above, upto)), there.exact point exactly ∙ none (winding (raw_of_paths corners paths) point) (paths-natural corners convex point paths) upto));
-  };
+  sum = around-of (λ (point : RationalPoint). IsOfSumWith (λ from. IsOfPaths paths from) corners point) (raw_of_paths corners paths) polygons there
+      (λ point off. by_lt_z (pos 0) (winding (raw_of_paths corners paths) point)
+      (λ above. inl (paths-sum corners convex point paths (λ none. omega (arith, ints, above, none)), above))
+      (λ upto. let from = paths-natural corners convex point paths in inr ((λ sum. let above = paths-cover corners convex point paths off sum in omega (arith, ints, above, upto)), omega (arith, ints, from, upto))));
 }
   where
     there : IsWound NonZero (raw_of_paths corners paths) polygons
     there = subst (λ (all : List Edge). IsWound NonZero all polygons) is wound
-
-    one : (w : ℤ) → pos 0 <ℤ w → count (is_result NonZero Union w (pos 0)) ≡ pos 1
-    one w above = ap (λ (t : Bool). count ((t || int_lt w (pos 0)) || (int_lt (pos 0) (pos 0) || int_lt (pos 0) (pos 0)))) (passes-lt (pos 0) w above)
-
-    none : (w : ℤ) → pos 0 ≤ℤ w → w ≤ℤ pos 0 → count (is_result NonZero Union w (pos 0)) ≡ pos 0
-    none w from upto = ap (λ z. count (is_result NonZero Union z (pos 0))) (let same : w ≡ pos 0 = omega (arith, ints, from, upto) in same)
 
 -- What holds of a fault that came, of this one.
 pub of-fault : {A : Type 0} (outcome : Result A MinkowskiFault) (fault : MinkowskiFault) (P : MinkowskiFault → Type 0) → IfErr outcome P → outcome ≡ Err fault → P fault

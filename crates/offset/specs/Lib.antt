@@ -2,8 +2,10 @@
 pub mod Circle
 pub mod CircleFaults
 pub mod Faults
+pub mod Joins
 pub mod Lines
 pub mod Minkowski
+pub mod Pieces
 pub mod Raw
 pub mod Shape
 pub mod Sum

@@ -254,8 +254,8 @@ fn square_distance(side: Edge) -> u128
     sweeps * sweeps / square_length(side)
 }
 
-// Twice the area between the origin and the side.
-fn swept(side: Edge) -> i128
+/// Twice the area between the origin and the side.
+pub fn swept(side: Edge) -> i128
     ensures value { result ≡ swept side }
     ensures within { IsWithin (2 ^ 63) result }
 {

@@ -31,8 +31,8 @@ pub fn append_raw_of_ring<A: Allocator>(
     Ok(())
 }
 
-// Appends that of an edge and the next one.
-fn append_raw_of_two<A: Allocator>(
+/// Appends that of an edge and the next one.
+pub fn append_raw_of_two<A: Allocator>(
     corners: &[Point],
     edge: Edge,
     next: Edge,
@@ -49,8 +49,8 @@ fn append_raw_of_two<A: Allocator>(
     }
 }
 
-// Appends the sides between the furthest corners of the edges, around the point between these.
-fn append_fan<A: Allocator>(
+/// Appends the sides between the furthest corners of the edges, around the point between these.
+pub fn append_fan<A: Allocator>(
     corners: &[Point],
     edge: Edge,
     next: Edge,
@@ -68,8 +68,8 @@ fn append_fan<A: Allocator>(
     Ok(())
 }
 
-// Appends the ways to the point between the edges, and from it, if these go to different corners.
-fn append_ways<A: Allocator>(
+/// Appends the ways to the point between the edges, and from it, if these go to different corners.
+pub fn append_ways<A: Allocator>(
     corners: &[Point],
     edge: Edge,
     next: Edge,
@@ -151,8 +151,8 @@ pub fn push_moved<A: Allocator>(
     Ok(())
 }
 
-// The point, moved by another one.
-fn moved(by: Point, point: Point) -> Result<Point, MinkowskiFault>
+/// The point, moved by another one.
+pub fn moved(by: Point, point: Point) -> Result<Point, MinkowskiFault>
     ensures ok { IfOk result (λ told. told ≡ moved by point) }
     ensures fault { IfErr result (λ fault. (fault ≡ Range) × (¬ (IsPointIn32Bits (moved by point)))) }
 {

@@ -1,6 +1,6 @@
 //! Polygons that grow and shrink, and lines that grow, worked by hand.
 
-use offset::{MinkowskiFault, erode, grow_lines, minkowski};
+use offset::{Join, MinkowskiFault, erode, grow_lines, minkowski, minkowski_joined};
 use overlay::{FillRule, Polygons, Rings};
 use plane::point::Point;
 use std::alloc::Global;
@@ -15,6 +15,7 @@ enum Call {
     Grow,
     Shrink,
     Lines,
+    Join(Join),
 }
 
 // A shape, rings or lines, and the polygons that they become.
@@ -33,9 +34,20 @@ const UNIT: &[(i32, i32)] = &[(-1, -1), (1, -1), (1, 1), (-1, 1)];
 
 const DIAMOND: &[(i32, i32)] = &[(2, 0), (0, 2), (-2, 0), (0, -2)];
 
+const OCTAGON: &[(i32, i32)] = &[
+    (2, -1),
+    (2, 1),
+    (1, 2),
+    (-1, 2),
+    (-2, 1),
+    (-2, -1),
+    (-1, -2),
+    (1, -2),
+];
+
 const TEN: &[(i32, i32)] = &[(0, 0), (10, 0), (10, 10), (0, 10)];
 
-static ROWS: [Row; 44] = [
+static ROWS: [Row; 53] = [
     Row {
         call: Call::Grow,
         name: "a square grows by a square",
@@ -605,6 +617,139 @@ static ROWS: [Row; 44] = [
         ends: &[2],
         wanted: Err(MinkowskiFault::Range),
     },
+    Row {
+        call: Call::Join(Join::Mitre(200)),
+        name: "a square keeps its corners by mitres of a diamond",
+        shape: DIAMOND,
+        points: TEN,
+        ends: &[4],
+        wanted: Ok((&[(-2, -2), (12, -2), (12, 12), (-2, 12)], &[4], &[1])),
+    },
+    Row {
+        call: Call::Join(Join::Mitre(199)),
+        name: "mitres that are a little too long stay round",
+        shape: DIAMOND,
+        points: TEN,
+        ends: &[4],
+        wanted: Ok((
+            &[
+                (-2, 0),
+                (0, -2),
+                (10, -2),
+                (12, 0),
+                (12, 10),
+                (10, 12),
+                (0, 12),
+                (-2, 10),
+            ],
+            &[8],
+            &[1],
+        )),
+    },
+    Row {
+        call: Call::Join(Join::Round),
+        name: "round joins are those of the shape",
+        shape: DIAMOND,
+        points: TEN,
+        ends: &[4],
+        wanted: Ok((
+            &[
+                (-2, 0),
+                (0, -2),
+                (10, -2),
+                (12, 0),
+                (12, 10),
+                (10, 12),
+                (0, 12),
+                (-2, 10),
+            ],
+            &[8],
+            &[1],
+        )),
+    },
+    Row {
+        call: Call::Join(Join::Round),
+        name: "a square grows by an octagon",
+        shape: OCTAGON,
+        points: TEN,
+        ends: &[4],
+        wanted: Ok((
+            &[
+                (-2, -1),
+                (-1, -2),
+                (11, -2),
+                (12, -1),
+                (12, 11),
+                (11, 12),
+                (-1, 12),
+                (-2, 11),
+            ],
+            &[8],
+            &[1],
+        )),
+    },
+    Row {
+        call: Call::Join(Join::Bevel),
+        name: "bevels cut from one corner of the octagon to another",
+        shape: OCTAGON,
+        points: TEN,
+        ends: &[4],
+        wanted: Ok((
+            &[
+                (-2, 1),
+                (-1, -2),
+                (9, -2),
+                (12, -1),
+                (12, 9),
+                (11, 12),
+                (1, 12),
+                (-2, 11),
+            ],
+            &[8],
+            &[1],
+        )),
+    },
+    Row {
+        call: Call::Join(Join::Mitre(300)),
+        name: "a corner that turns right has no mitre",
+        shape: DIAMOND,
+        points: &[(0, 0), (10, 0), (10, 10), (5, 10), (5, 5), (0, 5)],
+        ends: &[6],
+        wanted: Ok((
+            &[(-2, -2), (12, -2), (12, 12), (3, 12), (3, 7), (-2, 7)],
+            &[6],
+            &[1],
+        )),
+    },
+    Row {
+        call: Call::Join(Join::Mitre(200)),
+        name: "the tip of a mitre leaves 32 bits",
+        shape: SQUARE,
+        points: &[
+            (i32::MAX - 12, 0),
+            (i32::MAX - 7, -5),
+            (i32::MAX - 2, 0),
+            (i32::MAX - 7, 5),
+        ],
+        ends: &[4],
+        wanted: Err(MinkowskiFault::Range),
+    },
+    Row {
+        call: Call::Join(Join::Bevel),
+        name: "a shape for bevels runs clockwise",
+        shape: &[(-2, -2), (-2, 2), (2, 2), (2, -2)],
+        points: TEN,
+        ends: &[4],
+        wanted: Err(MinkowskiFault::Shape),
+    },
+    Row {
+        call: Call::Join(Join::Bevel),
+        name: "a ring for bevels stops behind the points",
+        shape: SQUARE,
+        points: TEN,
+        ends: &[5],
+        wanted: Err(MinkowskiFault::Lengths),
+    },
 ];
 
 fn points_of(alloc: Global, ends: &[(i32, i32)]) -> Result<Vec<Point>, Fail> {
@@ -635,6 +780,7 @@ fn is_told(alloc: Global, row: &Row) -> Result<bool, Fail> {
         Call::Grow => minkowski(rings, FillRule::NonZero, &shape, &mut out),
         Call::Shrink => erode(rings, FillRule::NonZero, &shape, &mut out),
         Call::Lines => grow_lines(rings, &shape, &mut out),
+        Call::Join(join) => minkowski_joined(rings, FillRule::NonZero, &shape, join, &mut out),
     };
     let (wanted, told): (Told, Result<(), MinkowskiFault>) = match row.wanted {
         Ok(told) => (told, Ok(())),

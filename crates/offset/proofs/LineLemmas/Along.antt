@@ -17,6 +17,7 @@ use Rattle.noding.proofs.SnapLemmas.Numbers.{Natural, n_of, natural, product_pos
 use Rattle.overlay.specs.Fill.Pieces.{total}
 use Rattle.overlay.proofs.FillLemmas.Premises.{All-among}
 use Rattle.offset.specs.Lines.{along}
+use Rattle.offset.specs.Pieces.{band}
 use Rattle.offset.specs.Raw.{GoesThrough, furthest, moved, moved_edge}
 use Rattle.offset.specs.Shape.{IsConvexAroundOrigin, IsIn, IsLeftOf, neighbours, sides}
 use Rattle.offset.specs.Sum.{IsOfSumWith}
@@ -25,7 +26,7 @@ use Rattle.offset.proofs.CoverLemmas.Shapes.{furthest-most, top}
 use Rattle.offset.proofs.CoverLemmas.Vectors.{crossed, crossing, term, way, wide}
 use Rattle.offset.proofs.LineLemmas.Around.{corner-height, cramer_x, cramer_y, goes-through, height-is, left-is, seen_from, side-wide, vector_of}
 use Rattle.offset.proofs.LineLemmas.Round.{gain}
-use Rattle.offset.proofs.PieceLemmas.Bands.{WindsSome, band, band-winds}
+use Rattle.offset.proofs.PieceLemmas.Bands.{WindsSome, band-winds}
 use Rattle.offset.proofs.PieceLemmas.Convex.{furthest-is, furthest-pair, furthest-told, shape-of}
 use Rattle.offset.proofs.PieceLemmas.Parts.{furthest-beside, moved-exchanged}
 use Rattle.offset.proofs.PieceLemmas.Sides.{left_by}

@@ -18,6 +18,7 @@ use Rattle.overlay.specs.Fill.Pieces.{total}
 use Rattle.overlay.proofs.FillLemmas.Premises.{All-among}
 use Rattle.overlay.proofs.FillLemmas.Totals.{total-same, total-sum}
 use Rattle.offset.specs.Lines.{shape_at}
+use Rattle.offset.specs.Pieces.{part_of_fan}
 use Rattle.offset.specs.Raw.{GoesThrough, moved, moved_edge}
 use Rattle.offset.specs.Shape.{IsConvexAroundOrigin, IsIn, IsLeftOf, neighbours, sides, turn}
 use Rattle.offset.proofs.CoverLemmas.Numbers.{above-factor, above-product, unscaled-most}
@@ -25,7 +26,6 @@ use Rattle.offset.proofs.CoverLemmas.Shapes.{IsShape, by_ends, reach-ends}
 use Rattle.offset.proofs.CoverLemmas.Sides.{IsOnWay}
 use Rattle.offset.proofs.CoverLemmas.Vectors.{crossed, crossing, term, turn_back, way, wide}
 use Rattle.offset.proofs.LineLemmas.Round.{closed-of, gain, ring-gain}
-use Rattle.offset.proofs.PieceLemmas.Bands.{part_of_fan}
 use Rattle.offset.proofs.PieceLemmas.Convex.{shape-of}
 use Rattle.offset.proofs.PieceLemmas.Parts.{side-counts, side-part-winds, spoke, total-from, total-map, total-natural, total-some}
 use Rattle.offset.proofs.PieceLemmas.Rounds.{start-held}

@@ -7,11 +7,12 @@ use Rattle.plane.specs.Ends.{edge_between, end_of, reversed, start_of}
 use Rattle.plane.specs.Meet.Crosses.{cross}
 use Rattle.plane.specs.Meet.Edges.{RationalPoint}
 use Rattle.noding.specs.Windings.{count, winding}
+use Rattle.offset.specs.Pieces.{band, part_of_fan}
 use Rattle.offset.specs.Raw.{moved, moved_edge}
 use Rattle.plane.proofs.MeetLemmas.Identities.{Term, identity, minus, number, plus, times}
 use Rattle.noding.proofs.SnapLemmas.Numbers.{n_of, product_positive}
 use Rattle.offset.proofs.PieceLemmas.Sides.{before-both, behind-both, is_passed, left_by, leftwards-over, passed, passed_by, right_by, rightwards-under, winding-passed}
-use Rattle.offset.proofs.PieceLemmas.Triangles.{IsTriangle, WindsOnce, is-triangle, triangle, triangle-winds, winds, winds-once}
+use Rattle.offset.proofs.PieceLemmas.Triangles.{IsTriangle, WindsOnce, is-triangle, triangle-winds, winds, winds-once}
 
 -- ---- numbers alone
 
@@ -187,10 +188,6 @@ module _ (p q r a b c : ℤ) (is : IsTriangle p q r a b c) where
 
 -- ---- bands and fans
 
--- The parallelogram between an edge and the edge moved by a point that lies strictly to the right of its way.
-abbrev pub band : Edge → Point → List Edge
-band edge by = moved_edge by edge ∷ edge_between (moved by (end_of edge)) (end_of edge) ∷ reversed edge ∷ edge_between (start_of edge) (moved by (start_of edge)) ∷ []
-
 abbrev way : ℤ → ℤ → Term
 way from to = minus (number to) (number from)
 
@@ -267,10 +264,6 @@ module _ (edge : Edge) (by : Point) (some : pos 0 <ℤ cross by.x by.y (edge.x1 
     where
       order : (k l m n : ℤ) → (k +ℤ (l +ℤ (m +ℤ (n +ℤ pos 0)))) ≡ (m +ℤ (n +ℤ (k +ℤ l)))
       order k l m n = omega (arith, ints)
-
--- The triangle between a point and a side of the shape moved to it.
-abbrev pub part_of_fan : Point → Edge → List Edge
-part_of_fan at side = triangle at (moved at (start_of side)) (moved at (end_of side))
 
 -- It winds so where the origin lies strictly to the left of the side.
 pub part-winds : (at : Point) (side : Edge) (point : RationalPoint) → pos 0 <ℤ cross side.x0 side.y0 side.x1 side.y1

@@ -38,7 +38,7 @@ module _ (corners : List Point) (convex : IsConvexAroundOrigin corners) (give : 
   begun edge = give (moved (furthest corners edge) (start_of edge))
 
   -- the joint goes from where the edge ends that was moved, to where the next one begins
-  joint-gains : (edge next : Edge) → start_of edge ≢ end_of edge → start_of next ≢ end_of next
+  pub joint-gains : (edge next : Edge) → start_of edge ≢ end_of edge → start_of next ≢ end_of next
       → total gain (joint corners edge next) ≡ (give (moved (furthest corners next) (end_of edge)) -ℤ give (moved (furthest corners edge) (end_of edge)))
   joint-gains edge next proper next_proper = by (int_lt (pos 0) (turn edge next)) refl
     where
@@ -91,7 +91,7 @@ module _ (corners : List Point) (convex : IsConvexAroundOrigin corners) (give : 
       nothing : (u v : ℤ) → u ≡ v → (u -ℤ v) ≡ pos 0
       nothing u v same = omega (arith, ints, same)
 
-  raw-gains : (rings : List (List Point)) → All (λ edge. start_of edge ≢ end_of edge) (flat_map ring_edges rings) → total gain (raw_edges corners rings) ≡ pos 0
+  pub raw-gains : (rings : List (List Point)) → All (λ edge. start_of edge ≢ end_of edge) (flat_map ring_edges rings) → total gain (raw_edges corners rings) ≡ pos 0
   raw-gains [] proper = refl
   raw-gains (ring ∷ rings) proper =
       let first = ring-gains ring (All-front (λ (e : Edge). start_of e ≢ end_of e) (ring_edges ring) (flat_map ring_edges rings) proper) in

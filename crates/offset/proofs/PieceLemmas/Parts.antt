@@ -15,6 +15,7 @@ use Rattle.overlay.proofs.ContourLemmas.RealEdges.{points-same}
 use Rattle.overlay.specs.Fill.Pieces.{total}
 use Rattle.noding.specs.Windings.{winding}
 use Rattle.offset.specs.Shape.{IsConvexAroundOrigin, neighbours, sides, turn}
+use Rattle.offset.specs.Pieces.{band, part_of_fan}
 use Rattle.offset.specs.Raw.{fan, furthest, is_of_fan, joint, moved, moved_edge, raw_edges, raw_of_ring, raw_of_two, ways}
 use Rattle.plane.proofs.MeetLemmas.Identities.{identity, minus, number, times}
 use Rattle.overlay.proofs.FillLemmas.Premises.{All-among}
@@ -26,7 +27,7 @@ use Rattle.overlay.proofs.GroupingLemmas.Bags.{Contains-in_flat_map}
 use Rattle.plane.proofs.PairsLemmas.Bags.{Contains-map}
 use Rattle.i_tree.proofs.RootLemmas.Joined.{All-behind, All-front}
 use Rattle.i_tree.proofs.RootLemmas.Lists.{Contains-here, Contains-there}
-use Rattle.offset.proofs.PieceLemmas.Bands.{WindsSome, back_and_forth, band, band-winds, part-winds, part_of_fan}
+use Rattle.offset.proofs.PieceLemmas.Bands.{WindsSome, back_and_forth, band-winds, part-winds}
 use Rattle.offset.proofs.PieceLemmas.Convex.{fan-gains, furthest-is, furthest-pair, furthest-told, shape-of}
 use Rattle.offset.proofs.PieceLemmas.Rounds.{IsJoined, neighbours-held, ring-joined, total-firsts, total-seconds}
 use Rattle.offset.proofs.PieceLemmas.Sides.{all_passed, left_by, left_by-reversed, passed, passed_by, right_by, winding-passed}
@@ -133,7 +134,7 @@ module _ (corners : List Point) (convex : IsConvexAroundOrigin corners) where
     abbrev pub parts_wind : Edge × Edge → ℤ
     parts_wind two = winding (band two.0 (furthest corners two.0)) point +ℤ fan_winds two.0 two.1
 
-    moved-counts : (edge : Edge) (corner : Point)
+    pub moved-counts : (edge : Edge) (corner : Point)
         → passed_by (moved_edge corner edge) point ≡ ((winding (band edge corner) point +ℤ passed_by edge point) +ℤ (spoke (end_of edge) corner -ℤ spoke (start_of edge) corner))
     moved-counts edge corner =
         let all = winding-passed (band edge corner) point in
@@ -149,7 +150,7 @@ module _ (corners : List Point) (convex : IsConvexAroundOrigin corners) where
         let back = passed_by-reversed (edge_between at (moved at (end_of side))) point in
         omega (arith, ints, all, back)
 
-    joint-counts : (edge next : Edge) → start_of edge ≢ end_of edge → start_of next ≢ end_of next
+    pub joint-counts : (edge next : Edge) → start_of edge ≢ end_of edge → start_of next ≢ end_of next
         → all_passed (joint corners edge next) point ≡ (fan_winds edge next +ℤ (spoke (end_of edge) (furthest corners next) -ℤ spoke (end_of edge) (furthest corners edge)))
     joint-counts edge next proper next_proper = by (int_lt (pos 0) (turn edge next)) refl
       where

@@ -7,6 +7,7 @@ use Rattle.plane.specs.Ends.{edge_between}
 use Rattle.plane.specs.Meet.Crosses.{cross}
 use Rattle.plane.specs.Meet.Edges.{RationalPoint}
 use Rattle.noding.specs.Windings.{winding}
+use Rattle.offset.specs.Pieces.{triangle}
 use Rattle.plane.proofs.MeetLemmas.Identities.{Term, identity, minus, number, plus, times}
 use Rattle.plane.proofs.SweepLineLemmas.Gaps.{product_above}
 use Rattle.noding.proofs.SnapLemmas.Numbers.{n_of, product_positive, zero_by}
@@ -223,10 +224,6 @@ winds-once p q r a b c is =
     second_turn found = first_turn (back q r p b c a found)
 
 -- ---- triangles
-
--- The sides of a triangle, from its first corner round.
-abbrev pub triangle : Point → Point → Point → List Edge
-triangle a b c = edge_between a b ∷ edge_between b c ∷ edge_between c a ∷ []
 
 -- Twice its area, above 0 if the corners stand counterclockwise.
 abbrev pub turn_at : Point → Point → Point → ℤ

@@ -1,0 +1,24 @@
+use Rattle.std.proofs.Common.{[], ◌∙◌, List, append-nil, subst, sym}
+use Rattle.plane.specs.declared.edge.Edge.{Edge}
+use Rattle.noding.specs.Windings.{IsClosed}
+use Rattle.plane.proofs.PairsLemmas.Extends.{OnErr-always}
+use Rattle.overlay.specs.Rings.{edges_of}
+use Rattle.offset.specs.Joins.{IsJoinedFault}
+use Rattle.offset.proofs.RawLemmas.{handed-on}
+use Rattle.offset.proofs.JoinLemmas.Joined.{joined, joined-closed}
+use Rattle.offset.proofs.joined.append_joined.Goals as goal
+
+pub append_wound-requires : goal.append_wound-requires
+append_wound-requires g c =
+    let (rings, bounds, is) = c.in_ok-raw.ensures.ok in
+    subst IsClosed (sym (c.deref.ensures.value ∙ is)) (joined-closed c.args.join c.args.shape.now c.requires.shape rings bounds.bounds.two_ends)
+
+pub returns-clause-ok : goal.returns-clause-ok
+returns-clause-ok g c =
+    let (rings, bounds, is) = c.in_ok-raw.ensures.ok in
+    let (polygons, wound, appended) = c.in_ok-append_wound.ensures.ok in
+    (polygons, joined c.args.join c.args.rule (edges_of c.args.polygons) c.args.shape.now c.requires.shape rings c.deref.result.now polygons bounds (c.deref.ensures.value ∙ is) wound, appended)
+
+pub returns-in_err-raw-clause-fault : goal.returns-in_err-raw-clause-fault
+returns-in_err-raw-clause-fault g c =
+    handed-on c.from_residual-in_err-raw.result _ (IsJoinedFault c.args.join c.args.rule (edges_of c.args.polygons) c.args.shape.now) c.from_residual-in_err-raw.ensures.1 c.in_err-raw.ensures.fault

@@ -1,0 +1,40 @@
+use Rattle.std.proofs.Common.{◌≡◌, ◌∙◌, [], List, ap, subst, subst₂, sym}
+use Rattle.std.proofs.lemmas.Result.{IfErr-weaker, IfOk-weaker}
+use Rattle.plane.specs.declared.point.Point.{Point}
+use Rattle.noding.specs.Offsets.{AreJoined}
+use Rattle.overlay.specs.Boundary.{IsBoundary}
+use Rattle.overlay.specs.Rings.{edges_of, real_edges, rings_of}
+use Rattle.overlay.specs.declared.fill.rules.Operation.TheVariants.{Union}
+use Rattle.overlay.proofs.Callers.{AreEnds-joined, rings-joined}
+use Rattle.offset.specs.Faults.{IsRawFault}
+use Rattle.offset.specs.Joins.{IsJoinedFault, joined_edges}
+use Rattle.offset.proofs.JoinLemmas.Joined.{joined-fails}
+use Rattle.offset.proofs.joined.joined_around.Goals as goal
+
+pub joined_of_rings-requires : goal.joined_of_rings-requires
+joined_of_rings-requires g c =
+    let (rings, _, joined) = c.in_ok-points.ensures.ok in
+    AreEnds-joined rings c.deref.result.now c.deref-2.result.now
+    (subst₂ (AreJoined rings) (sym c.deref.ensures.value) (sym c.deref-2.ensures.value) joined)
+
+-- the rings that were made are those of the points
+pub returns-clause-ok : goal.returns-clause-ok
+returns-clause-ok g c =
+    let shape = c.args.shape.now in
+    let edges = edges_of c.args.polygons in
+    let (rings, bounds, joined) = c.in_ok-points.ensures.ok in
+    let same = rings-joined rings c.deref.result.now c.deref-2.result.now
+    (subst₂ (AreJoined rings) (sym c.deref.ensures.value) (sym c.deref-2.ensures.value) joined) in
+    IfOk-weaker c.joined_of_rings.result (λ raw. raw.items ≡ joined_edges c.args.join shape (rings_of c.deref.result.now 0 c.deref-2.result.now))
+    (λ raw. (rings : List (List Point)) × IsBoundary c.args.rule Union (real_edges edges) [] rings × (raw.items ≡ joined_edges c.args.join shape rings))
+    (λ raw found. (rings, bounds, found ∙ ap (λ (all : List (List Point)). joined_edges c.args.join shape all) same)) c.joined_of_rings.ensures.ok
+
+pub returns-clause-fault : goal.returns-clause-fault
+returns-clause-fault g c =
+    let shape = c.args.shape.now in
+    let edges = edges_of c.args.polygons in
+    let (rings, bounds, joined) = c.in_ok-points.ensures.ok in
+    let same = rings-joined rings c.deref.result.now c.deref-2.result.now
+    (subst₂ (AreJoined rings) (sym c.deref.ensures.value) (sym c.deref-2.ensures.value) joined) in
+    IfErr-weaker c.joined_of_rings.result (IsRawFault (joined_edges c.args.join shape (rings_of c.deref.result.now 0 c.deref-2.result.now))) (IsJoinedFault c.args.join c.args.rule edges shape)
+    (λ fault fails. joined-fails c.args.join c.args.rule edges shape rings bounds fault (subst (λ (all : List (List Point)). IsRawFault (joined_edges c.args.join shape all) fault) same fails)) c.joined_of_rings.ensures.fault

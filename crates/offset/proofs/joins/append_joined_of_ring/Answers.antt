@@ -1,0 +1,43 @@
+use Rattle.std.proofs.Common.{◌∙◌, ◌++◌, ◌≡◌, ap, arith, get_or, length, List, subst, sym}
+use Rattle.std.specs.List.{flat_map}
+use Rattle.std.proofs.lemmas.List.{take_all}
+use Rattle.plane.specs.declared.edge.Edge.{Edge}
+use Rattle.overlay.specs.Contours.Rings.{ring_edges}
+use Rattle.offset.specs.Faults.{IsRawFault}
+use Rattle.offset.specs.Joins.{joined_of_ring, joined_of_two}
+use Rattle.offset.specs.Raw.{nowhere}
+use Rattle.offset.specs.Shape.{neighbours}
+use Rattle.offset.proofs.RawLemmas.{handed-on, made-fails, made-more}
+use Rattle.offset.proofs.ShapeLemmas.{length-neighbours, length-sides, two-at}
+use Rattle.offset.proofs.joins.append_joined_of_ring.Goals as goal
+
+pub returns-in_err-append_joined_of_two-clause-fault : goal.returns-in_err-append_joined_of_two-clause-fault
+returns-in_err-append_joined_of_two-clause-fault g c =
+    let corners = c.args.corners.now in
+    let ring = c.args.ring.now in
+    let size = length-neighbours (ring_edges ring) in
+    let sized = length-sides ring in
+    let two = two-at ring c.loop-index.index c.next_place.result c.side_at-edge.result c.side_at-next.result c.loop-index-test.true c.next_place.ensures c.side_at-edge.ensures c.side_at-next.ensures in
+    handed-on c.from_residual.result _ (IsRawFault (joined_of_ring c.args.join corners ring)) c.from_residual.ensures.1
+    (made-fails (joined_of_two c.args.join corners) (neighbours (ring_edges ring)) c.loop-index.index (nowhere, nowhere) _ (omega (arith, size, sized, c.loop-index-test.true))
+    (subst (λ (edges : Edge × Edge). IsRawFault (joined_of_two c.args.join corners edges) c.in_err-append_joined_of_two.field-0.0) two c.in_err-append_joined_of_two.ensures.fault))
+
+pub loop-index-preserved : goal.loop-index-preserved
+loop-index-preserved g c =
+    let corners = c.args.corners.now in
+    let ring = c.args.ring.now in
+    let size = length-neighbours (ring_edges ring) in
+    let sized = length-sides ring in
+    let two = two-at ring c.loop-index.index c.next_place.result c.side_at-edge.result c.side_at-next.result c.loop-index-test.true c.next_place.ensures c.side_at-edge.ensures c.side_at-next.ensures in
+    c.in_ok-append_joined_of_two.ensures.ok
+    ∙ ap (λ (edges : Edge × Edge). c.loop-index.edges.items ++ joined_of_two c.args.join corners edges) two
+    ∙ made-more (joined_of_two c.args.join corners) (neighbours (ring_edges ring)) c.loop-index.index (nowhere, nowhere) c.args.edges.now.items c.loop-index.edges.items (omega (arith, size, sized, c.loop-index-test.true)) c.loop-index.invariant
+
+pub returns-clause-ok : goal.returns-clause-ok
+returns-clause-ok g c =
+    let corners = c.args.corners.now in
+    let ring = c.args.ring.now in
+    let size = length-neighbours (ring_edges ring) in
+    let sized = length-sides ring in
+    c.loop-index.invariant
+    ∙ ap (λ (all : List (Edge × Edge)). c.args.edges.now.items ++ flat_map (joined_of_two c.args.join corners) all) (take_all c.loop-index.index (neighbours (ring_edges ring)) (omega (arith, size, sized, c.loop-index-test.false)))
