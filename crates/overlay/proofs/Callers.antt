@@ -38,8 +38,8 @@ pub use Rattle.overlay.proofs.WindsLemmas.Pairs.{ArePairsBut, HasCome, IsNextPla
 -- same polygon.
 pub use Rattle.overlay.proofs.WindsLemmas.Each.{IsNextBelow}
 pub use Rattle.overlay.proofs.WindsLemmas.Polygons.{KeepTogether, each-once}
--- So it is where the edges of each ring have the polygon as often on their left, and each hole is at home where the ring just below its
--- first edge is.
+-- So it is where the edges of each ring have the polygon as often on their left, and each hole is at home where the ring just below
+-- its first edge is.
 pub use Rattle.overlay.proofs.WindsLemmas.Homes.{AreAtHome, home-once, left-own}
 -- Of the polygons of an overlay and edges along an axis that were among those given, no two cross at a point with fractions: so an
 -- overlay of these polygons with such edges is exact at every point, by `exact-everywhere`.

@@ -1,5 +1,5 @@
--- What some of the edges wind just below an edge and just above it, told at a point that is one of its ends: of all edges at the point
--- it is the lowest one over the stretch before it or behind it, or the highest one, or the next one below another.
+-- What some of the edges wind just below an edge and just above it, told at a point that is one of its ends: of all edges at the
+-- point it is the lowest one over the stretch before it or behind it, or the highest one, or the next one below another.
 use Rattle.std.proofs.Common.{◌≡◌, ◌≢◌, ◌⊎◌, inl, inr, ℤ, pos, ◌+ℤ◌, ◌<ℤ◌, Bool, true, false, cond, not, ◌&&◌, List, refl, ap, sym, subst, ◌∙◌, arith}
 use Rattle.std.specs.Bool.{MatchBool}
 use Rattle.std.specs.List.{All, Contains}

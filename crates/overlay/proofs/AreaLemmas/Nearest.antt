@@ -101,8 +101,8 @@ module _ (edges : List Edge) (noded : AreNoded edges) (distinct : AreDistinct ed
           (elim (comes-first (way one) (way other) (way another) first both second_back) [ inl before ↦ before | inr after ↦ absurd (is.first another is_too.among is_too.touches (λ same. differ (sym same)) after) ])
           (elim (comes-first (way another) (way other) (way one) second both_back first_back) [ inl before ↦ before | inr after ↦ absurd (is_too.first one is.among is.touches differ after) ])
 
-  -- The edge that turns furthest left of those that aren't walked is the next one clockwise from the edge that a walk comes by, where
-  -- that isn't walked.
+  -- The edge that turns furthest left of those that aren't walked is the next one clockwise from the edge that a walk comes by,
+  -- where that isn't walked.
   pub leftmost-next : (used : List Bool) (place k : ℕ) (one : Edge) → end_of one ≡ at → IsNextAround edges at one (edge_at edges k) → Leaves edges used at k → IsLeftmost edges used (start_of one) at place → edge_at edges place ≡ edge_at edges k
   leftmost-next used place k one ends is leaves leftmost = elim (edge-or e other) [ inl same ↦ same | inr differ ↦ absurd (never differ) ]
     where

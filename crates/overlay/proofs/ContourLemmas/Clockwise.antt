@@ -148,7 +148,8 @@ module _ (a e b : Direction) where
   pub between-first : turn a e <ℤ pos 0 → turn a b <ℤ pos 0 → turn e b <ℤ pos 0 → ComesBefore a e b
   between-first one both other = inr (inl (inl one, inl both), other)
 
-  -- where b lies on a's side, back from it: what lies clockwise from a on that side, what lies on the other, and what lies back from b
+  -- where b lies on a's side, back from it: what lies clockwise from a on that side, what lies on the other, and what lies back
+  -- from b
   pub onwards-first : pos 0 <ℤ turn a b → turn a e <ℤ pos 0 → ComesBefore a e b
   onwards-first above below = inl (inl below, not-left above)
 

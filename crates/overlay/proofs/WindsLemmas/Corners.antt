@@ -1,5 +1,5 @@
--- Around a point at which edges meet that wind once around a point or not at all, edges that end there and edges that start there take
--- turns; and some of them wind alike on the left of one that ends there and of the next one clockwise, which starts there.
+-- Around a point at which edges meet that wind once around a point or not at all, edges that end there and edges that start there
+-- take turns; and some of them wind alike on the left of one that ends there and of the next one clockwise, which starts there.
 use Rattle.std.proofs.Common.{◌≡◌, ◌≢◌, inl, inr, ℕ, ℤ, pos, negsuc, ◌+ℤ◌, ◌-ℤ◌, ◌*ℤ◌, ◌<ℤ◌, Bool, true, cond, ◌&&◌, List, ap, ap₂, sym, ◌∙◌, arith}
 use Rattle.std.specs.Int.Signed.{lt_z}
 use Rattle.std.specs.List.{All, Contains}

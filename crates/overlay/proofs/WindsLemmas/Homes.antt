@@ -1,5 +1,5 @@
--- Polygons wind once around a point or not at all, each by itself, where the edges of a ring have the same number on their left, and
--- each hole is at home where the ring just below its first edge is.
+-- Polygons wind once around a point or not at all, each by itself, where the edges of a ring have the same number on their left,
+-- and each hole is at home where the ring just below its first edge is.
 use Rattle.std.proofs.Common.{◌≡◌, ◌≢◌, ◌⊎◌, inl, inr, ℕ, zero, suc, ◌<◌, ℤ, pos, negsuc, ◌+ℤ◌, ◌<ℤ◌, Bool, true, false, cond, ◌&&◌, List, refl, ap, ap₂, sym, ◌∙◌, arith}
 use Rattle.std.specs.List.{All, Contains, filter}
 use Rattle.std.proofs.lemmas.Int.{by_lt_z, ints}
@@ -28,8 +28,8 @@ use Rattle.overlay.proofs.WindsLemmas.Corners.{left-once, right-none}
 use Rattle.overlay.proofs.WindsLemmas.Each.{AreTogether, IsNextBelow, winds-own}
 use Rattle.overlay.proofs.WindsLemmas.Paired.{IsOneOrNone}
 
--- The first edge of each edge's ring, and a number of the ring: it has the same number on its left, and is of the same polygon; what is
--- just below it is of a ring with a lower number, and of the same polygon where the ring is a hole.
+-- The first edge of each edge's ring, and a number of the ring: it has the same number on its left, and is of the same polygon;
+-- what is just below it is of a ring with a lower number, and of the same polygon where the ring is a hole.
 pub record AreAtHome (edges : List Edge) (own : Edge → Bool) (first : Edge → Edge) (rank : Edge → ℕ) : Type 0 where
   pub leads : (edge : Edge) → Contains edges edge → Contains edges (first edge)
   pub alike : (edge : Edge) → Contains edges edge → left_of (filter own edges) edge ≡ left_of (filter own edges) (first edge)

@@ -1,5 +1,5 @@
--- A walk along edges that wind once around a point or not at all: of the edges that end at a point each is walked exactly if the next one
--- clockwise is, which starts there. This holds wherever no walk is at present, and keeps walks to the next edges.
+-- A walk along edges that wind once around a point or not at all: of the edges that end at a point each is walked exactly if the
+-- next one clockwise is, which starts there. This holds wherever no walk is at present, and keeps walks to the next edges.
 use Rattle.std.proofs.Common.{◌≡◌, ◌≢◌, ◌⊎◌, inl, inr, ℕ, ◌<◌, ◌∷◌, pos, Bool, true, false, cond, List, get_or, length, set, refl, ap, sym, subst, ◌∙◌, arith}
 use Rattle.std.specs.List.{All, Contains}
 use Rattle.std.proofs.lemmas.Bool.{cases_lt}
