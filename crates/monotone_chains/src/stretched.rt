@@ -20,6 +20,9 @@ const PLACES: usize = 31;
 /// How many points are looked at in one place.
 const AT_EACH: usize = 8;
 
+/// Of no more points than these all edges are swept as they are, since cutting rings takes longer than it could save.
+const FEW_POINTS: usize = 64;
+
 /// The real edges of subject and clip as stretches, or nothing where few would have several edges.
 ///
 /// It is refused for want of memory alone.
@@ -34,10 +37,10 @@ pub(crate) fn stretches_along<'a, A: Allocator + Copy>(
         AreCut (real_edges (edges_of subject.entry)) (real_edges (edges_of clip.entry)) told.parts.items told.count)) }
     ensures refused { IfErr result (λ cause. cause ≡ OutOfMemory) }
 {
-    if turn_often(subject.points, clip.points) {
+    let edges = subject.points.len().saturating_add(clip.points.len());
+    if edges <= FEW_POINTS || turn_often(subject.points, clip.points) {
         return Ok(None);
     }
-    let edges = subject.points.len().saturating_add(clip.points.len());
     let most = longest_of(edges);
     let mut parts = Vec::new(alloc);
     if !append_rings(subject, most, edges / 8, &mut parts)? {
