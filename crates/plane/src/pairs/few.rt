@@ -17,7 +17,7 @@ const FEW_ITEMS: usize = 64;
 const FEWEST_IN_RUNS: usize = 24;
 
 // So many items that follow each other make a run, which has a box of its own. Edges that follow each other lie near each other.
-const RUN: usize = 5;
+const RUN: usize = 6;
 
 // So many points are few. An item that looks for points in rows takes as long as one that is compared with so many.
 const FEW_POINTS: usize = 8;
