@@ -87,13 +87,43 @@ def point_problems(rings, shape, made, points, grows=True):
     """At which points, in parts, what is made winds otherwise than it is to: of rings that bound the inside, which grow by a
     shape, or of which that is left around which the shape lies inside."""
     raw = raw_curve(rings, shape) if grows else raw_curve([it[::-1] for it in rings], [(-x, -y) for x, y in shape])
-    near = [tuple(number * PARTS for number in edge) for edge in raw]
-    edges, answer = edges_of(rings, PARTS), edges_of(made, PARTS)
-    corners = [(x * PARTS, y * PARTS) for x, y in shape]
+    edges, corners = edges_of(rings, PARTS), in_parts(shape)
+    is_wanted = is_of_sum if grows else is_of_rest
+    return problems_at(raw, lambda point: is_wanted(edges, corners, point), made, points)
+
+
+def raw_of_line(line, shape):
+    """The edges of the shape at each point of a line, and of the parallelogram along each of its edges."""
+    found = [moved(side, at) for at in line for side in edges_of([shape])]
+    for start, end in zip(line, line[1:]):
+        edge, back = (*start, *end), (*end, *start)
+        right, left = furthest(shape, vector(edge)), furthest(shape, vector(back))
+        found += [moved(edge, right), moved((*right, *left), end), moved(back, left), moved((*left, *right), start)]
+    return found
+
+
+def line_problems(random, line, shape, made):
+    """The same at points by chance, of a line that grows by a shape."""
+    raw, corners = raw_of_line(line, shape), in_parts(shape)
+    edges = [(*start, *end) for start, end in zip(in_parts(line), in_parts(line)[1:] or in_parts(line))]
+
+    def is_wanted(point):
+        return any(meets(edge, [(point[0] - a, point[1] - b) for a, b in corners]) for edge in edges)
+
+    return problems_at(raw, is_wanted, made, points_about(random, raw))
+
+
+def in_parts(points):
+    return [(x * PARTS, y * PARTS) for x, y in points]
+
+
+def problems_at(raw, is_wanted, made, points):
+    """At which points, in parts, what is made winds otherwise than it is to, if none of these edges is near them."""
+    near, answer = [tuple(number * PARTS for number in edge) for edge in raw], edges_of(made, PARTS)
     for point in points:
         if any(is_on(edge, point) if is_along_axis(edge) else is_near(edge, point, HALF) for edge in near):
             continue
-        wanted = (is_of_sum if grows else is_of_rest)(edges, corners, point)
+        wanted = is_wanted(point)
         if winding(answer, point) != wanted:
             where = f"{point[0]}/{PARTS} {point[1]}/{PARTS}"
             yield f"around {where} it winds {winding(answer, point)} times in place of {int(wanted)}"
@@ -183,7 +213,11 @@ def some_rings(random, has_hole):
 
 def some_points(random, rings, shape):
     """Points about the curve around the sum, in parts."""
-    raw = raw_curve(rings, shape)
+    return points_about(random, raw_curve(rings, shape))
+
+
+def points_about(random, raw):
+    """Points about these edges, in parts."""
     for _ in range(LOOKS):
         x0, y0, x1, y1 = random.choice(raw)
         share = random.randrange(PARTS + 1)

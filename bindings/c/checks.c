@@ -46,6 +46,9 @@ int32_t proved_itree_minkowski(const struct itree_point *points, size_t point_co
 int32_t proved_itree_erode(const struct itree_point *points, size_t point_count, const size_t *ring_ends,
                            size_t ring_count, const struct itree_point *shape, size_t corner_count, int32_t rule,
                            struct itree_polygons **polygons);
+int32_t proved_itree_grow_lines(const struct itree_point *points, size_t point_count, const size_t *line_ends,
+                                size_t line_count, const struct itree_point *shape, size_t corner_count,
+                                struct itree_polygons **polygons);
 int32_t proved_itree_circle(int32_t radius, size_t most, struct itree_point *corners, size_t corner_count,
                             size_t *count, int32_t *inner);
 size_t proved_itree_polygons_points(const struct itree_polygons *polygons, const struct itree_point **first);
@@ -326,6 +329,18 @@ int32_t itree_erode(const struct itree_point *points, size_t point_count, const 
     limits_begin();
     return limits_end(proved_itree_erode(slice(points, point_count), point_count, slice(ring_ends, ring_count),
                                          ring_count, slice(shape, corner_count), corner_count, rule, polygons));
+}
+
+int32_t itree_grow_lines(const struct itree_point *points, size_t point_count, const size_t *line_ends,
+                         size_t line_count, const struct itree_point *shape, size_t corner_count,
+                         struct itree_polygons **polygons) {
+    if (!can_be_rings(points, point_count, line_ends, line_count) ||
+        !can_hold(shape, corner_count, OF(struct itree_point)) || !can_hold(polygons, 1, OF(struct itree_polygons *))) {
+        return ITREE_POINTER;
+    }
+    limits_begin();
+    return limits_end(proved_itree_grow_lines(slice(points, point_count), point_count, slice(line_ends, line_count),
+                                              line_count, slice(shape, corner_count), corner_count, polygons));
 }
 
 int32_t itree_circle(int32_t radius, size_t most, struct itree_point *corners, size_t corner_count, size_t *count,

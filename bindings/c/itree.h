@@ -43,7 +43,7 @@ enum itree_status {
     ITREE_STOPPED = 9,  /* The flag of itree_stop_flag stopped the call. */
     ITREE_WINDOW = 10,  /* A window has no points or comes too near to the ends of 32 bits, or two windows overlap. */
     ITREE_UNFIT = 11,   /* Tiles don't fit: a polygon leaves its window, or polygons at borders overlap. */
-    ITREE_SHAPE = 12,   /* A shape by which polygons grow or shrink isn't convex around the origin. */
+    ITREE_SHAPE = 12,   /* A shape to grow or shrink by isn't convex around the origin. */
     ITREE_RANGE = 13    /* What grows or shrinks leaves 32 bits. */
 };
 
@@ -403,8 +403,30 @@ int32_t itree_erode(const struct itree_point *points, size_t point_count, const 
                     const struct itree_point *shape, size_t corner_count, int32_t rule,
                     struct itree_polygons **polygons);
 
+/* Writes a handle of the polygons of the Minkowski sum of lines and a shape: of the points that one of a line and one of the shape
+ * add up to. So lines become as wide as the shape is, and their ends take its form; lines that come to touch become one.
+ *
+ * A line goes from each of its points to the next one, and not back to the first. The points of all lines stand one line after the
+ * other, and line_ends has for each line the place among them at which it stops, as those of rings. A line of one point becomes the
+ * shape there, and one of none nothing. The shape is as itree_minkowski takes it.
+ *
+ * The polygons are as itree_overlay writes them. They wind once around each point of the sum, and not at all around any other, as
+ * those of itree_minkowski do: in place of the curve there are the shape at each point of a line, and along each edge the parallelogram
+ * between the edge moved by the corner of the shape that lies furthest to the right of it, and the edge moved by that furthest to the
+ * left. The call returns
+ *   ITREE_ANSWERED  and *polygons is the caller's, also where there are none;
+ *   ITREE_REFUSED   and *polygons is NULL;
+ *   ITREE_POINTER   exactly where a pointer is faulty, and *polygons stays as it was;
+ *   ITREE_LENGTHS   exactly where none is, and a line stops before it begins or behind the points: *polygons is NULL;
+ *   ITREE_SHAPE     exactly where all that is well, and the shape isn't one: *polygons is NULL;
+ *   ITREE_RANGE     and all that is well, but a corner of such a shape or parallelogram is no point of 32 bits: *polygons is NULL.
+ * polygons may not be NULL. What *polygons was before isn't looked at. */
+int32_t itree_grow_lines(const struct itree_point *points, size_t point_count, const size_t *line_ends,
+                         size_t line_count, const struct itree_point *shape, size_t corner_count,
+                         struct itree_polygons **polygons);
+
 /* Writes the corners of a convex polygon that stands for a circle around the origin, counterclockwise: a shape for
- * itree_minkowski. It has at most so many corners: 8, 16, 24 or more, up to 8,192, as far as most allows, and no more than eight
+ * itree_minkowski, itree_erode and itree_grow_lines. It has at most so many corners: 8, 16, 24 or more, up to 8,192, as far as most allows, and no more than eight
  * times the root of a sixth of the radius; below 8, or where the radius is below 6, it is a diamond. No corner is farther from the
  * origin than the radius, and *inner is the greatest whole number up to it such that no side is nearer.
  *

@@ -18,7 +18,7 @@ const char *itree_status_text(int32_t status) {
     case ITREE_STOPPED: return "the call was stopped";
     case ITREE_WINDOW: return "a window has no points or comes too near to the ends of 32 bits, or two windows overlap";
     case ITREE_UNFIT: return "tiles don't fit: a polygon leaves its window, or polygons at borders overlap";
-    case ITREE_SHAPE: return "a shape by which polygons grow or shrink isn't convex around the origin";
+    case ITREE_SHAPE: return "a shape to grow or shrink by isn't convex around the origin";
     case ITREE_RANGE: return "what grows or shrinks leaves 32 bits";
     default: return "there is no such status";
     }

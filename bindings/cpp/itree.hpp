@@ -165,10 +165,10 @@ public:
     Unfit() : std::invalid_argument("tiles don't fit: a polygon leaves its window, or polygons at borders overlap") {}
 };
 
-/// A shape by which polygons grow or shrink isn't convex around the origin.
+/// A shape to grow or shrink by isn't convex around the origin.
 class ShapeFault : public std::invalid_argument {
 public:
-    ShapeFault() : std::invalid_argument("a shape by which polygons grow or shrink isn't convex around the origin") {}
+    ShapeFault() : std::invalid_argument("a shape to grow or shrink by isn't convex around the origin") {}
 };
 
 /// What grows or shrinks leaves 32 bits.
@@ -1279,6 +1279,13 @@ inline Polygons erode(const Rings &rings, Span<Point> shape, FillRule rule) {
     return Polygons(handle);
 }
 
+inline Polygons grow_lines(const Rings &lines, Span<Point> shape) {
+    ::itree_polygons *handle = nullptr;
+    throw_unless_answered(::itree_grow_lines(lines.points.data(), lines.points.size(), lines.ends.data(),
+                                             lines.ends.size(), shape.data(), shape.size(), &handle));
+    return Polygons(handle);
+}
+
 }  // namespace detail
 
 /// The polygons of the Minkowski sum of what is inside of the rings and a shape: of the points that one of the inside and one of
@@ -1320,6 +1327,27 @@ template <typename Items = detail::InBraces<Position>>
 [[nodiscard]] Polygons erode(const Items &rings, Span<Point> shape, FillRule rule, const Grid &grid) {
     const auto all = detail::rings_on(grid, rings);
     return detail::erode(all, shape, rule);
+}
+
+/// The polygons of the Minkowski sum of lines and a shape: of the points that one of a line and one of the shape add up to. So lines
+/// become as wide as the shape is, and their ends take its form, as is said at `itree_grow_lines` of itree.h.
+///
+///     const auto roads = itree::grow_lines(middles, itree::circle(500, 64).corners);
+///
+/// A line goes from each of its points to the next one, and not back to the first; one of one point becomes the shape there. Lines
+/// are given as `clip_lines` takes them, and the shape as `minkowski` does. It throws what that does; `RangeFault` where a corner of
+/// the shape at a point, or of the parallelogram along an edge, is no point of 32 bits.
+template <typename Lines = detail::InBraces<Point>>
+[[nodiscard]] Polygons grow_lines(const Lines &lines, Span<Point> shape) {
+    const auto all = detail::rings_of(lines);
+    return detail::grow_lines(all, shape);
+}
+
+/// The same of positions, which are first rounded to the grid. The shape is one of the grid's units, and so is the answer.
+template <typename Lines = detail::InBraces<Position>>
+[[nodiscard]] Polygons grow_lines(const Lines &lines, Span<Point> shape, const Grid &grid) {
+    const auto all = detail::rings_on(grid, lines);
+    return detail::grow_lines(all, shape);
 }
 
 /// A convex polygon around the origin that stands for a circle.

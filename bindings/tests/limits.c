@@ -111,6 +111,7 @@ static int32_t call(int which) {
     case 18: status = itree_minkowski(points, MANY, &end, 1, around, 4, ITREE_NON_ZERO, &polygons); break;
     case 19: return itree_circle(1000, MANY, NULL, 0, NULL, NULL);
     case 20: status = itree_erode(points, MANY, &end, 1, around, 4, ITREE_NON_ZERO, &polygons); break;
+    case 21: status = itree_grow_lines(points, MANY, &end, 1, around, 4, &polygons); break;
     }
     const int has_handle = pairs != NULL || chains != NULL || polygons != NULL;
     itree_pairs_free(pairs);
@@ -119,7 +120,7 @@ static int32_t call(int which) {
     return has_handle == (status == ITREE_ANSWERED) ? status : -1;
 }
 
-enum { EACH = 9, CALLS = 21 };
+enum { EACH = 9, CALLS = 22 };
 
 static void checks_memory(void) {
     for (int which = 0; which < CALLS; which++) {

@@ -119,6 +119,10 @@ static void many_shapes(void) {
     check("shrunk", itree_erode(corners, MANY, ends, SQUARES, square, 4, ITREE_NON_ZERO, &polygons) == ITREE_ANSWERED &&
                         itree_polygons_points(polygons, NULL) == MANY);
     itree_polygons_free(polygons);
+    check("lines of one point",
+          itree_grow_lines(middles, SQUARES, shapes_end, SQUARES, square, 4, &polygons) == ITREE_ANSWERED &&
+              itree_polygons_points(polygons, NULL) == MANY);
+    itree_polygons_free(polygons);
 }
 
 /* A polygon of a million points to well-known binary and back. */

@@ -1,4 +1,4 @@
-/* Polygons that grow and shrink, from C beside a plain model, at faults, and with each request for memory refused in turn. */
+/* Polygons that grow and shrink, and lines that grow, from C beside a plain model, at faults, and with each request for memory refused in turn. */
 #include <itree.h>
 #include <stdio.h>
 #include <string.h>
@@ -13,14 +13,21 @@ static const struct itree_point square[] = {{-1, -1}, {1, -1}, {1, 1}, {-1, 1}};
 static const struct itree_point field[] = {{0, 0}, {9, 0}, {9, 9}, {0, 9}};
 static const size_t one_ring[] = {4};
 
-/* A call by which polygons grow, or shrink, and whether they shrink. */
+/* A call by which polygons grow or shrink, or lines grow; whether they shrink, and whether it takes a rule. */
 struct door {
     int32_t (*call)(const struct itree_point *, size_t, const size_t *, size_t, const struct itree_point *, size_t,
                     int32_t, struct itree_polygons **);
-    int shrinks;
+    int shrinks, has_rule;
 };
 
-static const struct door grows = {itree_minkowski, 0}, shrinks = {itree_erode, 1};
+static int32_t grow_lines(const struct itree_point *points, size_t point_count, const size_t *ends, size_t count,
+                          const struct itree_point *shape, size_t corners, int32_t rule,
+                          struct itree_polygons **polygons) {
+    (void)rule;
+    return itree_grow_lines(points, point_count, ends, count, shape, corners, polygons);
+}
+
+static const struct door grows = {itree_minkowski, 0, 1}, shrinks = {itree_erode, 1, 1}, widens = {grow_lines, 0, 0};
 
 static int32_t by(const struct door *door, const struct itree_point *points, const size_t *ends, size_t rings,
                   const struct itree_point *shape, size_t corners, struct itree_polygons **polygons) {
@@ -118,14 +125,114 @@ static const struct row rows[] = {
      1},
 };
 
-static void checks_rows(void) {
-    for (size_t place = 0; place < sizeof rows / sizeof *rows; place++) {
-        const struct row *const row = &rows[place];
+/* The same of lines. */
+static const struct row rows_of_lines[] = {
+    {"a line along an axis",
+     {{0, 0}, {9, 0}},
+     {2},
+     1,
+     {{-1, -1}, {1, -1}, {1, 1}, {-1, 1}},
+     4,
+     {{-1, -1}, {10, -1}, {10, 1}, {-1, 1}},
+     4,
+     1},
+    {"a slanted line",
+     {{9, 9}, {0, 0}},
+     {2},
+     1,
+     {{-1, -1}, {1, -1}, {1, 1}, {-1, 1}},
+     4,
+     {{-1, -1}, {1, -1}, {10, 8}, {10, 10}, {8, 10}, {-1, 1}},
+     6,
+     1},
+    {"by a rhomb",
+     {{0, 0}, {9, 0}},
+     {2},
+     1,
+     {{2, 0}, {0, 2}, {-2, 0}, {0, -2}},
+     4,
+     {{-2, 0}, {0, -2}, {9, -2}, {11, 0}, {9, 2}, {0, 2}},
+     6,
+     1},
+    {"by a shape that lies aside",
+     {{0, 0}, {9, 0}},
+     {2},
+     1,
+     {{-1, -1}, {5, -1}, {-1, 5}},
+     3,
+     {{-1, -1}, {14, -1}, {8, 5}, {-1, 5}},
+     4,
+     1},
+    {"a line of one point, and one of none",
+     {{5, 5}},
+     {1, 1},
+     2,
+     {{-1, -1}, {1, -1}, {1, 1}, {-1, 1}},
+     4,
+     {{4, 4}, {6, 4}, {6, 6}, {4, 6}},
+     4,
+     1},
+    {"a line of the same point twice",
+     {{5, 5}, {5, 5}},
+     {2},
+     1,
+     {{-1, -1}, {1, -1}, {1, 1}, {-1, 1}},
+     4,
+     {{4, 4}, {6, 4}, {6, 6}, {4, 6}},
+     4,
+     1},
+    {"a bend, and back again",
+     {{0, 0}, {9, 0}, {9, 9}, {9, 0}},
+     {4},
+     1,
+     {{-1, -1}, {1, -1}, {1, 1}, {-1, 1}},
+     4,
+     {{-1, -1}, {10, -1}, {10, 10}, {8, 10}, {8, 1}, {-1, 1}},
+     6,
+     1},
+    {"a line that goes round",
+     {{0, 0}, {9, 0}, {9, 9}, {0, 9}, {0, 0}},
+     {5},
+     1,
+     {{-1, -1}, {1, -1}, {1, 1}, {-1, 1}},
+     4,
+     {{-1, -1}, {10, -1}, {10, 10}, {-1, 10}},
+     4,
+     2},
+    {"and one that stops before",
+     {{0, 0}, {9, 0}, {9, 9}, {0, 9}},
+     {4},
+     1,
+     {{-1, -1}, {1, -1}, {1, 1}, {-1, 1}},
+     4,
+     {{-1, -1}, {10, -1}, {10, 10}, {-1, 10}, {-1, 8}, {8, 8}, {8, 1}, {-1, 1}},
+     8,
+     1},
+    {"two lines become one",
+     {{0, 0}, {9, 0}, {0, 2}, {9, 2}},
+     {2, 4},
+     2,
+     {{-1, -1}, {1, -1}, {1, 1}, {-1, 1}},
+     4,
+     {{-1, -1}, {10, -1}, {10, 3}, {-1, 3}},
+     4,
+     1},
+};
+
+static void checks_these(const struct door *door, const struct row *these, size_t count) {
+    for (size_t place = 0; place < count; place++) {
+        const struct row *const row = &these[place];
         struct itree_polygons *polygons = NULL;
-        const int ok = grow(row->points, row->ends, row->rings, row->shape, row->corners, &polygons) == ITREE_ANSWERED;
+        const int ok =
+            by(door, row->points, row->ends, row->rings, row->shape, row->corners, &polygons) == ITREE_ANSWERED;
         check(row->what, ok && is_one(polygons, row->wanted_rings, row->wanted, row->wanted_count));
         itree_polygons_free(polygons);
     }
+}
+
+static void checks_rows(void) {
+    checks_these(&grows, rows, sizeof rows / sizeof *rows);
+    checks_these(&widens, rows_of_lines, sizeof rows_of_lines / sizeof *rows_of_lines);
 }
 
 /* Rings, a shape, and all the rings that are left of them, in so many polygons. */
@@ -318,12 +425,61 @@ static int is_right(const struct door *door, int32_t rule) {
     return ok;
 }
 
+/* Whether the unit square at a point is of what an edge along an axis becomes, by a rectangle. */
+static int is_along(struct itree_point start, struct itree_point stop, const struct itree_point *shape, int32_t x,
+                    int32_t y) {
+    const int32_t left = start.x < stop.x ? start.x : stop.x, right = start.x < stop.x ? stop.x : start.x;
+    const int32_t below = start.y < stop.y ? start.y : stop.y, above = start.y < stop.y ? stop.y : start.y;
+    return left + shape[0].x <= x && x < right + shape[2].x && below + shape[0].y <= y && y < above + shape[2].y;
+}
+
+/* Whether lines by chance, along axes, cover the unit squares that they are to where they grow by a rectangle. */
+static int is_right_of_lines(void) {
+    struct itree_point points[4 * MOST];
+    size_t ends[MOST], count = (size_t)random_below(MOST + 1), total = 0;
+    const int32_t left = 1 + random_below(FAR), low = 1 + random_below(FAR), right = 1 + random_below(FAR),
+                  high = 1 + random_below(FAR);
+    const struct itree_point shape[] = {{-left, -low}, {right, -low}, {right, high}, {-left, high}};
+    for (size_t line = 0; line < count; line++) {
+        struct itree_point at = {random_below(SIDE), random_below(SIDE)};
+        for (int32_t rest = random_below(5); rest > 0; rest--) {
+            points[total++] = at;
+            *(rest % 2 ? &at.x : &at.y) = random_below(SIDE);
+        }
+        ends[line] = total;
+    }
+    struct itree_polygons *polygons = NULL;
+    if (itree_grow_lines(points, total, ends, count, shape, 4, &polygons) != ITREE_ANSWERED) return 0;
+    const struct itree_point *made;
+    const size_t *offsets;
+    itree_polygons_points(polygons, &made);
+    const size_t rings = itree_polygons_ring_offsets(polygons, &offsets) - 1;
+    int ok = 1;
+    for (int32_t x = -FAR - 1; x < SIDE + FAR; x++) {
+        for (int32_t y = -FAR - 1; y < SIDE + FAR; y++) {
+            int wanted = 0;
+            for (size_t line = 0, place = 0; line < count; line++) {
+                const size_t start = place;
+                for (; place < ends[line]; place++) {
+                    const struct itree_point before = points[place == start ? place : place - 1];
+                    wanted = wanted || is_along(before, points[place], shape, x, y);
+                }
+            }
+            ok = ok && plain_winding(made, offsets + 1, rings, x, y) == wanted;
+        }
+    }
+    itree_polygons_free(polygons);
+    return ok;
+}
+
 static void checks_by_chance(void) {
     int ok = 1;
     for (int32_t round = 0; round < 2000; round++) ok = ok && is_right(&grows, round % 4);
     check("rectangles by rectangles, as the plain model", ok);
     for (int32_t round = 0; round < 2000; round++) ok = ok && is_right(&shrinks, round % 4);
     check("rectangles less rectangles, as the plain model", ok);
+    for (int32_t round = 0; round < 2000; round++) ok = ok && is_right_of_lines();
+    check("lines by rectangles, as the plain model", ok);
 }
 
 static void checks_faulty_pointers(const struct door *door) {
@@ -379,8 +535,8 @@ static void checks_faults(const struct door *door) {
         check(faulty_shapes[place].what, ends_so(door, field, one_ring, corners, count, ITREE_NON_ZERO, ITREE_SHAPE));
         check("a ring behind the points comes first", ends_so(door, field, behind, corners, count, 1, ITREE_LENGTHS));
         check("and before that a rule that is none",
-              ends_so(door, field, behind, corners, count, 4, ITREE_CHOICE) &&
-                  ends_so(door, field, behind, corners, count, -1, ITREE_CHOICE));
+              !door->has_rule || (ends_so(door, field, behind, corners, count, 4, ITREE_CHOICE) &&
+                                  ends_so(door, field, behind, corners, count, -1, ITREE_CHOICE)));
     }
 }
 
@@ -389,6 +545,8 @@ static void checks_range(void) {
                              low[] = {{0, INT32_MIN}, {9, INT32_MIN}, {9, 9}, {0, 9}};
     check("what leaves 32 bits to the right", ends_so(&grows, far, one_ring, square, 4, 1, ITREE_RANGE));
     check("and what leaves them below", ends_so(&grows, low, one_ring, square, 4, 1, ITREE_RANGE));
+    check("a line that does", ends_so(&widens, far, one_ring, square, 4, 1, ITREE_RANGE) &&
+                                  ends_so(&widens, low, one_ring, square, 4, 1, ITREE_RANGE));
     struct itree_polygons *polygons = NULL;
     const struct itree_point nearly[] = {{0, 0}, {INT32_MAX - 1, 0}, {INT32_MAX - 1, 9}, {0, 9}};
     const struct itree_point wanted[] = {{-1, -1}, {INT32_MAX, -1}, {INT32_MAX, 10}, {-1, 10}};
@@ -489,10 +647,12 @@ static void checks_refused(const struct door *door) {
     size_t ends[2 * BARS], requests = 0;
     struct itree_polygons *polygons = NULL;
     int ok = 1;
+    /* Lines go there and back. */
+    const int32_t wide = door->has_rule ? 10 : 0;
     for (int32_t bar = 0; bar < BARS; bar++) {
         const int32_t at = 20 * bar;
-        const struct itree_point across[] = {{0, at}, {240, at}, {240, at + 10}, {0, at + 10}};
-        const struct itree_point up[] = {{at, 0}, {at + 10, 0}, {at + 10, 240}, {at, 240}};
+        const struct itree_point across[] = {{0, at}, {240, at}, {240, at + wide}, {0, at + wide}};
+        const struct itree_point up[] = {{at, 0}, {at + wide, 0}, {at + wide, 240}, {at, 240}};
         memcpy(points + 8 * bar, across, sizeof across);
         memcpy(points + 8 * bar + 4, up, sizeof up);
         ends[2 * bar] = (size_t)(8 * bar + 4);
@@ -516,12 +676,15 @@ int main(void) {
     checks_by_chance();
     checks_faulty_pointers(&grows);
     checks_faulty_pointers(&shrinks);
+    checks_faulty_pointers(&widens);
     checks_faults(&grows);
     checks_faults(&shrinks);
+    checks_faults(&widens);
     checks_range();
     checks_range_left();
     checks_circles();
     checks_refused(&grows);
     checks_refused(&shrinks);
+    checks_refused(&widens);
     return told();
 }

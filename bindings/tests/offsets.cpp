@@ -1,4 +1,4 @@
-// Polygons that grow and shrink, from C++: by hand, at faults, and with refused memory.
+// Polygons that grow and shrink, and lines that grow, from C++: by hand, at faults, and with refused memory.
 #include <itree.hpp>
 
 #include "counted.h"
@@ -71,6 +71,23 @@ void checks_shrunk() {
     check("positions less a shape of a grid's units", is_ring(rounded, {{1, 1}, {9, 1}, {9, 9}, {1, 9}}));
 }
 
+void checks_lines() {
+    const PointRings bend{{{0, 0}, {9, 0}, {9, 9}, {9, 0}}};
+    const auto wide = itree::grow_lines(bend, square);
+    check("a bend and back", is_ring(wide, {{-1, -1}, {10, -1}, {10, 10}, {8, 10}, {8, 1}, {-1, 1}}));
+    const auto braces = itree::grow_lines({{{0, 0}, {9, 0}}}, {{-1, -1}, {5, -1}, {-1, 5}});
+    check("lines in braces, by a shape that lies aside", is_ring(braces, {{-1, -1}, {14, -1}, {8, 5}, {-1, 5}}));
+    const PointRings cross{{{0, 0}, {9, 0}}, {{4, -4}, {4, 4}}, {{20, 20}}, {}};
+    const auto apart = itree::grow_lines(cross, square);
+    check("a cross, and a line of one point", apart.size() == 2 && apart.points().size() == 12 + 4);
+    const auto closed = itree::grow_lines(PointRings{{{0, 0}, {9, 0}, {9, 9}, {0, 9}, {0, 0}}}, square);
+    check("a line that goes round leaves a hole", closed.size() == 1 && closed[0].size() == 2);
+    check("no lines", itree::grow_lines(PointRings(), square).empty());
+    const std::vector<std::vector<itree::Position>> half{{{0, 0}, {2.25, 0}}};
+    const auto rounded = itree::grow_lines(half, square, itree::Grid({0, 0, -2}));
+    check("positions by a shape of a grid's units", is_ring(rounded, {{-1, -1}, {10, -1}, {10, 1}, {-1, 1}}));
+}
+
 void checks_circles() {
     const auto circle = itree::circle(1000, 64);
     check("a circle", circle.corners.size() == 64 && circle.inner < 1000 && circle.inner > 990);
@@ -86,16 +103,12 @@ void checks_circles() {
     refuse_after(SIZE_MAX);
 }
 
-/// What a call by which polygons grow, or shrink, throws of faulty shapes and rings.
+/// What a call by which polygons grow or shrink, or lines grow, throws of faulty shapes and rings.
 template <typename By>
 void checks_faults(const By &by) {
-    check("a shape that runs clockwise",
-          thrown<itree::ShapeFault>([&] {
-              return by(field, {{-1, -1}, {-1, 1}, {1, 1}, {1, -1}}, FillRule::non_zero);
-          }) == "a shape by which polygons grow or shrink isn't convex around the origin");
-    check("a rule that is none comes before", thrown<std::invalid_argument>([&] {
-                                                  return by(field, {}, static_cast<FillRule>(4));
-                                              }) == "there is no such rule or operation");
+    check("a shape that runs clockwise", thrown<itree::ShapeFault>([&] {
+                                             return by(field, {{-1, -1}, {-1, 1}, {1, 1}, {1, -1}}, FillRule::non_zero);
+                                         }) == "a shape to grow or shrink by isn't convex around the origin");
     const std::size_t falling[] = {3, 2};
     check("faulty rings", thrown<std::invalid_argument>([&] {
                               return by(itree::Rings{field[0], falling}, square, FillRule::non_zero);
@@ -113,6 +126,14 @@ void checks_faults(const By &by) {
     check("refused memory is thrown", requests > 4);
 }
 
+/// What one throws that takes a rule.
+template <typename By>
+void checks_rule(const By &by) {
+    check("a rule that is none comes before", thrown<std::invalid_argument>([&] {
+                                                  return by(field, {}, static_cast<FillRule>(4));
+                                              }) == "there is no such rule or operation");
+}
+
 void checks_range() {
     const std::string words = "what grows or shrinks leaves 32 bits";
     const PointRings far{{{0, 0}, {INT32_MAX, 0}, {0, 9}}},
@@ -121,6 +142,8 @@ void checks_range() {
     const auto left = [&] { return itree::erode(thin, {{-2, -2}, {2, -2}, {2, 2}, {-2, 2}}, FillRule::non_zero); };
     check("what leaves 32 bits", thrown<itree::RangeFault>(grown) == words);
     check("a side that moves out of them", thrown<itree::RangeFault>(left) == words);
+    const auto line = [&] { return itree::grow_lines(far, square); };
+    check("a line that leaves them", thrown<itree::RangeFault>(line) == words);
 }
 
 }  // namespace
@@ -128,13 +151,22 @@ void checks_range() {
 int main() {
     checks_grown();
     checks_shrunk();
+    checks_lines();
     checks_circles();
-    checks_faults([](const auto &rings, itree::Span<itree::Point> shape, FillRule rule) {
+    const auto grow = [](const auto &rings, itree::Span<itree::Point> shape, FillRule rule) {
         return itree::minkowski(rings, shape, rule);
-    });
-    checks_faults([](const auto &rings, itree::Span<itree::Point> shape, FillRule rule) {
+    };
+    const auto shrink = [](const auto &rings, itree::Span<itree::Point> shape, FillRule rule) {
         return itree::erode(rings, shape, rule);
-    });
+    };
+    const auto widen = [](const auto &lines, itree::Span<itree::Point> shape, FillRule) {
+        return itree::grow_lines(lines, shape);
+    };
+    checks_faults(grow);
+    checks_faults(shrink);
+    checks_faults(widen);
+    checks_rule(grow);
+    checks_rule(shrink);
     checks_range();
     return told();
 }

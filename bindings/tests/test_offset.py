@@ -31,7 +31,7 @@ import growth
 import itree
 from itree import __main__ as command
 from itree import _grown, _offset
-from itree._shapes import HeldRings
+from itree._shapes import HeldRings, held_rings
 
 try:
     import shapely.geometry
@@ -187,7 +187,7 @@ class Pictures(unittest.TestCase):
         wider, narrower = (self.rings_in(f"growing.{name}", "polygon", "hole") for name in ("wider", "narrower"))
         self.assertEqual(rings_of(itree.minkowski(subject, shape)), sorted(map(turned, wider)))
         inside = itree.simplify(subject)
-        left = _grown.eroded(HeldRings(inside.given(), inside), shape, 0)
+        left = _grown.eroded(HeldRings(inside.given(), inside), shape, 1, 0)
         self.assertEqual(rings_of(itree.Polygons(left, None)), sorted(map(turned, narrower)))
 
 
@@ -235,15 +235,13 @@ class ByChance(unittest.TestCase):
             self.check(rings, circle, itree.offset(rings, -radius, quad_segs=4), points, False)
 
     def test_lines(self):
-        """The sum of each edge of a line and a shape is a ring that winds once around each point of it."""
         for _, chance, rings in self.each():
             shape, line = growth.some_shape(chance), rings[0][: chance.randint(1, 4)]
-            made = _grown.around_edges(line, shape)
-            self.assertEqual(len(made), max(1, len(line) - 1))
-            for start, end, ring in zip(line, line[1:] or line, made):
-                corners = [(x + a, y + b) for x, y in (start, end) for a, b in shape]
-                self.assertEqual(growth.hull(ring), growth.hull(corners))
-                self.assertEqual(sum(growth.turn(ring[at - 2], ring[at - 1], ring[at]) < 0 for at in range(len(ring))), 0)
+            numbers = array.array("i", [number for point in line for number in point])
+            held = held_rings(numbers, array.array("Q", [len(line)]))
+            polygons = itree.Polygons(_grown.grown_lines(held, shape, 0), None)
+            made = [ring for polygon in polygons for ring in (polygon.outer, *polygon.holes)]
+            self.assertEqual(list(growth.line_problems(chance, line, shape, made)), [], (line, shape))
 
 
 class Faults(unittest.TestCase):
@@ -265,8 +263,12 @@ class Faults(unittest.TestCase):
         far = [[(0, 0), (2**31 - 1, 0), (0, 9)]]
         with self.assertRaisesRegex(OverflowError, "leaves the numbers of 32 bits"):
             itree.minkowski(far, SQUARE)
+        # Within the triangle there is room, and right of the left wall of the notch, which goes that way, there is none.
+        self.assertEqual(len(itree.offset(far, -1)), 1)
+        end = 2**31 - 1
+        notch = [[(end - 20, 0), (end, 0), (end, 20), (end - 1, 20), (end - 1, 9), (end - 20, 9)]]
         with self.assertRaisesRegex(OverflowError, "leaves the numbers of 32 bits"):
-            itree.offset(far, -1)
+            itree.offset(notch, -2)
         grid = itree.Grid((0, 0), 2.0**-30)
         for shape in (
             {"type": "Polygon", "coordinates": [[(0, 0), (1, 0), (0, 1)]]},

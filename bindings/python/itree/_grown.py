@@ -1,24 +1,23 @@
-"""What grows and shrinks, in whole units: the shape that goes round, its sum with rings, and what of rings is left."""
+"""What grows and shrinks, in whole units: the shape that goes round, its sum with rings and lines, and what of rings is left."""
 
 from __future__ import annotations
 
 import array
 import math
-from typing import List, Sequence, Tuple
+from typing import Callable, List, Sequence, Tuple
 
 from . import _answers
 from ._answers import Handle, Lists
 from ._calls import made
 from ._library import RANGE, SHAPE, library
 from ._overlay import OPERATIONS, RULES
-from ._rows import _GREATEST, _LEAST
-from ._shapes import NOTHING, HeldRings, held_rings
+from ._shapes import NOTHING, HeldRings
 
 Point = Tuple[int, int]
 
 # No circle has more corners: each two of them are looked at.
 MOST_CORNERS = 8192
-_NON_ZERO, _UNION, _DIFFERENCE = RULES["nonzero"], OPERATIONS["union"], OPERATIONS["difference"]
+_NON_ZERO, _UNION = RULES["nonzero"], OPERATIONS["union"]
 NOT_CONVEX = "the corners of a convex polygon with the origin inside are wanted, counterclockwise"
 TOO_FAR = "what has grown leaves the numbers of 32 bits"
 
@@ -76,13 +75,36 @@ def minkowski_sum(rings: HeldRings, shape: Sequence[Point], rule: int, limit: in
 
     Raises ValueError where a ring stops where it can't, or the shape is none, and OverflowError where the sum leaves 32 bits.
     """
+    return _made_of(library.itree_minkowski, rings, shape, [rule], limit)
+
+
+def eroded(rings: HeldRings, shape: Sequence[Point], rule: int, limit: int) -> Lists:
+    """The polygons of what is left of the inside of rings: of the points around which all of the shape lies inside.
+
+    Raises what `minkowski_sum` does.
+    """
+    return _made_of(library.itree_erode, rings, shape, [rule], limit)
+
+
+def grown_lines(lines: HeldRings, shape: Sequence[Point], limit: int) -> Lists:
+    """The polygons of the sum of lines and a shape; a line of one point becomes the shape there.
+
+    Raises what `minkowski_sum` does.
+    """
+    return _made_of(library.itree_grow_lines, lines, shape, [], limit)
+
+
+def _made_of(call: Callable[..., int], rings: HeldRings, shape: Sequence[Point], words: List[int], limit: int) -> Lists:
+    """What a call of the library makes of rings, or lines, and a shape."""
     handle, corners = Handle(library.itree_polygons_free), array.array("i")
-    for point in shape:
-        corners.extend(point)
-    at, count = corners.buffer_info()
-    words = *rings.given, at, count // 2, rule, handle.to_write
-    size, kept = rings.given[1] + count // 2, (rings, corners, handle)
-    status = made(library.itree_minkowski, *words, size=size, limit=limit, kept=kept)
+    try:
+        for point in shape:
+            corners.extend(point)
+    except OverflowError:
+        raise OverflowError(TOO_FAR) from None
+    given = *rings.given, corners.buffer_info()[0], len(corners) // 2, *words, handle.to_write
+    size, kept = rings.given[1] + len(corners) // 2, (rings, corners, handle)
+    status = made(call, *given, size=size, limit=limit, kept=kept)
     if status == SHAPE:
         raise ValueError(f"the shape: {NOT_CONVEX}")
     if status == RANGE:
@@ -105,57 +127,12 @@ def by_circle(rings: HeldRings, radius: int, corners: int, rule: int, limit: int
     if -2 * radius >= min(max(numbers[axis::2]) - min(numbers[axis::2]) for axis in (0, 1)):
         # No circle of the radius has room.
         return _answers.polygons_of(NOTHING, NOTHING, rule, _UNION, limit)
-    return eroded(HeldRings(inside.given(), inside), circle(-radius, corners), limit)
+    return eroded(HeldRings(inside.given(), inside), circle(-radius, corners), _NON_ZERO, limit)
 
 
-def eroded(inside: HeldRings, shape: Sequence[Point], limit: int) -> Lists:
-    """The polygons of what is left of polygons: of the points around which all of the shape lies inside.
-
-    What is outside grows by the shape turned by half a circle, within a box around all, and is taken away.
-    """
-    points, count = inside.given[:2]
-    numbers = _answers.view_at(inside, points, 2 * count, "i")
-    reach = 2 + max(max(abs(x), abs(y)) for x, y in shape)
-    low, high = ([way(numbers[axis::2]) + far for axis in (0, 1)] for way, far in ((min, -reach), (max, reach)))
-    if min(low) < _LEAST or max(high) > _GREATEST:
-        raise OverflowError(TOO_FAR)
-    box = held_rings(array.array("i", [*low, high[0], low[1], *high, low[0], high[1]]), array.array("Q", [4]))
-    outside = _answers.polygons_of(box, inside, _NON_ZERO, _DIFFERENCE, limit)
-    opposite = [(-x, -y) for x, y in shape]
-    grown = minkowski_sum(HeldRings(outside.given(), outside), opposite, _NON_ZERO, limit)
-    return _answers.polygons_of(inside, HeldRings(grown.given(), grown), _NON_ZERO, _DIFFERENCE, limit)
-
-
-def around_edges(points: Sequence[Point], shape: Sequence[Point]) -> List[List[Point]]:
-    """The sum of each edge of a line and a shape, as a convex ring. A line of one point is an edge from it to itself."""
-    if not points:
-        return []
-    edges = list(zip(points, points[1:])) if len(points) > 1 else [(points[0], points[0])]
-    return [_around(start, end, shape) for start, end in edges]
-
-
-def _around(start: Point, end: Point, shape: Sequence[Point]) -> List[Point]:
-    (x0, y0), (x1, y1) = start, end
-    heights = [(x1 - x0) * y - (y1 - y0) * x for x, y in shape]
-    right, left = heights.index(min(heights)), heights.index(max(heights))
-    count = len(shape)
-    # Round the end from the corner that lies furthest to the right up to that furthest to the left, and back round the start.
-    ahead = [shape[(right + step) % count] for step in range((left - right) % count + 1)]
-    behind = [shape[(left + step) % count] for step in range((right - left) % count + 1)]
-    if left == right:
-        return [(x0 + x, y0 + y) for x, y in shape]
-    return [*((x1 + x, y1 + y) for x, y in ahead), *((x0 + x, y0 + y) for x, y in behind)]
-
-
-def united(rings: Sequence[Sequence[Point]], grown: Lists, limit: int) -> Lists:
-    """The union of rings, each of which runs counterclockwise, and of polygons."""
-    numbers, ends = array.array("i"), array.array("Q")
-    try:
-        for ring in rings:
-            for point in ring:
-                numbers.extend(point)
-            ends.append(len(numbers) // 2)
-    except OverflowError:
-        raise OverflowError(TOO_FAR) from None
-    held = HeldRings(grown.given(), grown)
-    return _answers.polygons_of(held_rings(numbers, ends), held, _NON_ZERO, _UNION, limit)
+def united(one: Lists, other: Lists, limit: int) -> Lists:
+    """The union of polygons."""
+    if not one.point_count:
+        return other
+    first, second = HeldRings(one.given(), one), HeldRings(other.given(), other)
+    return _answers.polygons_of(first, second, _NON_ZERO, _UNION, limit)

@@ -7,7 +7,7 @@ import math
 import operator
 from collections.abc import Iterator as IsIterator
 from collections.abc import Mapping
-from typing import Any, Iterable, Iterator, List, Literal, Optional, Sequence, Tuple
+from typing import Any, Iterable, Iterator, List, Literal, Optional, Tuple
 
 from . import _gathered, _grown, _rings, _rows, _shapely, _shapes
 from ._answers import two_by_two, view_at
@@ -15,13 +15,12 @@ from ._calls import limit_of
 from ._clip import LineLayer
 from ._gathered import Gathered
 from ._grid import Grid, fitted
-from ._grown import Point
 from ._layers import Layer, is_of_objects
 from ._overlay import RULES, Rule, check_grid, number_in
 from ._points import PointLayer
 from ._polygons import Polygons
 from ._rings import Rings
-from ._shapes import Shapes
+from ._shapes import HeldRings, Shapes, held_rings
 
 Style = Literal["round"]
 _LINES, _POINTS = ("LineString", "LinearRing", "MultiLineString"), ("Point", "MultiPoint")
@@ -70,7 +69,7 @@ def offset(
     The answer is the Minkowski sum of the shapes and that polygon, exact but for
     what `overlay` says that it rounds: so nothing grows further than the distance,
     nor less far than the distance less what the sides leave. Where shapes shrink,
-    what is outside grows so.
+    those points are left around which all of the polygon lies inside.
 
     Rings of whole numbers, without a grid, stay whole: the distance is to be
     whole then, and so are the circle's corners. A distance under half a unit of
@@ -91,9 +90,9 @@ def offset(
     radius = _radius(far, grid)
     lists = _grown.by_circle(given.areas.held(grid), radius if far > 0 else -radius, corners, number, limit)
     if radius and far > 0:
-        circle = _grown.circle(radius, corners)
-        around = [ring for line in given.lines(grid) for ring in _grown.around_edges(line, circle)]
-        lists = _grown.united(around, lists, limit) if around else lists
+        lines = given.lines(grid)
+        if lines.given[3]:
+            lists = _grown.united(lists, _grown.grown_lines(lines, _grown.circle(radius, corners), limit), limit)
     return Polygons(lists, grid, given.crs, given.areas.srid)
 
 
@@ -172,8 +171,7 @@ def _radius(far: float, grid: Optional[Grid]) -> int:
 
 def grid_around(corners: array.array[float], far: float, unit: Optional[float] = None) -> Grid:
     """The grid on which positions, x, y, x, y and so on, fit, and what becomes of them by a distance."""
-    # Of what shrinks the outside grows, from beyond as far again.
-    reach = far if far > 0 else -2 * far
+    reach = abs(far)
     return fitted(array.array("d", [it + way for way in (-reach, reach) for it in corners]), unit)
 
 
@@ -198,19 +196,19 @@ class _Given:
             numbers.extend(it.corners())
         return grid_around(numbers, far)
 
-    def lines(self, grid: Optional[Grid]) -> Iterator[Sequence[Point]]:
-        """The points of each line, in units of a grid; a point is a line of one."""
+    def lines(self, grid: Optional[Grid]) -> HeldRings:
+        """All lines, in units of a grid; a point is a line of one."""
+        numbers, ends = array.array("i"), array.array("Q")
         for layer in self._lines:
             of_c, kept = layer.held(grid)
-            points = list(two_by_two(view_at(kept, of_c.points, 2 * of_c.point_count, "i")))
-            start = 0
-            for stop in view_at(kept, of_c.ends, of_c.line_count, "Q"):
-                yield points[start:stop]
-                start = stop
+            before = len(numbers) // 2
+            numbers.frombytes(view_at(kept, of_c.points, 2 * of_c.point_count, "i"))
+            ends.extend(before + stop for stop in view_at(kept, of_c.ends, of_c.line_count, "Q"))
         for it in self._points:
             at, count, kept = it.held(grid)
-            for point in two_by_two(view_at(kept, at, 2 * count, "i")):
-                yield [point]
+            numbers.frombytes(view_at(kept, at, 2 * count, "i"))
+            ends.extend(range(len(numbers) // 2 - count + 1, len(numbers) // 2 + 1))
+        return held_rings(numbers, ends)
 
 
 class _Parts:

@@ -1,17 +1,17 @@
-//! Polygons that grow and shrink.
+//! Polygons that grow and shrink, and lines that grow.
 
-use crate::{answered, calls, polygons_of, FillRule, Point, Polygons, Refused, Rings, REFUSED};
+use crate::{answered, calls, polygons_of, FillRule, Lines, Point, Polygons, Refused, Rings, REFUSED};
 use std::collections::TryReserveError;
 use std::error::Error;
 use std::fmt::{self, Display, Formatter};
 use std::ptr;
 
-/// Why polygons don't grow, or don't shrink.
+/// Why polygons don't grow or shrink, or lines don't grow.
 #[derive(Clone, Copy, Debug, PartialEq, Eq, Hash)]
 pub enum MinkowskiFault {
     /// Memory was refused, or the call was stopped.
     Refused,
-    /// A ring stops before it begins, or behind the points.
+    /// A ring, or a line, stops before it begins, or behind the points.
     Lengths,
     /// The shape isn't convex around the origin.
     Shape,
@@ -24,12 +24,7 @@ impl Display for MinkowskiFault {
         match self {
             MinkowskiFault::Refused => write!(f, "{REFUSED}"),
             MinkowskiFault::Lengths => write!(f, "a ring stops before it begins, or behind the points"),
-            MinkowskiFault::Shape => {
-                write!(
-                    f,
-                    "a shape by which polygons grow or shrink isn't convex around the origin"
-                )
-            }
+            MinkowskiFault::Shape => write!(f, "a shape to grow or shrink by isn't convex around the origin"),
             MinkowskiFault::Range => write!(f, "what grows or shrinks leaves 32 bits"),
         }
     }
@@ -125,7 +120,44 @@ pub fn erode(rings: Rings<'_>, shape: &[Point], rule: FillRule) -> Result<Polygo
     made_by(status, handle)
 }
 
-/// What the status and the handle of polygons that grow, or that shrink, tell.
+/// The polygons of the Minkowski sum of lines and a shape: of the points that one of a line and one of the shape add up to. So lines
+/// become as wide as the shape is, and their ends take its form; lines that come to touch become one.
+///
+/// A line of one point becomes the shape there, and one of none nothing. The shape is as `minkowski` takes it. The polygons wind once
+/// around each point of the sum, and not at all around any other, as those of `minkowski` do: in place of the curve there are the
+/// shape at each point of a line, and along each edge the parallelogram between the edge moved by the corner of the shape that lies
+/// furthest to the right of it, and the edge moved by that furthest to the left.
+///
+/// The faults are those of `minkowski`, in the same order: `MinkowskiFault::Lengths` where a line stops before it begins or behind
+/// the points, and `MinkowskiFault::Range` where a corner of such a shape or parallelogram is no point of 32 bits.
+///
+/// ```
+/// use itree::{grow_lines, Lines, Point};
+///
+/// let points = [(0, 0), (9, 0)].map(Point::from);
+/// let road = Lines { points: &points, ends: &[2] };
+/// let shape = [(-2, -2), (2, -2), (2, 2), (-2, 2)].map(Point::from);
+/// let wide = grow_lines(road, &shape).unwrap();
+/// assert_eq!(wide.polygon(0).outer(), [(-2, -2), (11, -2), (11, 2), (-2, 2)].map(Point::from));
+/// ```
+pub fn grow_lines(lines: Lines<'_>, shape: &[Point]) -> Result<Polygons, MinkowskiFault> {
+    let mut handle = ptr::null_mut();
+    // SAFETY: each pointer and length are those of a slice, and the last is of a value of this call.
+    let status = unsafe {
+        calls::itree_grow_lines(
+            lines.points.as_ptr(),
+            lines.points.len(),
+            lines.ends.as_ptr(),
+            lines.ends.len(),
+            shape.as_ptr(),
+            shape.len(),
+            &mut handle,
+        )
+    };
+    made_by(status, handle)
+}
+
+/// What the status and the handle of polygons that grow or shrink, or of lines that grow, tell.
 fn made_by(status: i32, handle: *mut calls::Handle) -> Result<Polygons, MinkowskiFault> {
     match status {
         calls::LENGTHS => Err(MinkowskiFault::Lengths),

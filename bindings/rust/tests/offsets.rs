@@ -1,6 +1,8 @@
-//! Polygons that grow and shrink: by hand, at faults, and with each request for memory refused in turn.
+//! Polygons that grow and shrink, and lines that grow: by hand, at faults, and with each request for memory refused in turn.
 
-use itree::{circle, erode, minkowski, CircleFault, FillRule, MinkowskiFault, Point, Polygons, Rings};
+use itree::{
+    circle, erode, grow_lines, minkowski, CircleFault, FillRule, Lines, MinkowskiFault, Point, Polygons, Rings,
+};
 use refuse::granted;
 
 mod refuse;
@@ -102,6 +104,53 @@ fn shrinks_by_a_shape() {
     assert_eq!(call(&rhomb(1)), Ok(0));
 }
 
+/// Lines, as such a call takes rings.
+fn lines_by(rings: Rings<'_>, shape: &[Point], _rule: FillRule) -> Result<Polygons, MinkowskiFault> {
+    let Rings { points, ends } = rings;
+    grow_lines(Lines { points, ends }, shape)
+}
+
+#[test]
+fn grows_lines_by_a_shape() {
+    let rings = |points: &[(i32, i32)], ends: &[usize], shape: &[Point]| {
+        let points: Vec<Point> = points.iter().copied().map(Point::from).collect();
+        rings_by(lines_by, &points, ends, shape)
+    };
+    assert_eq!(rings(&[(0, 0), (9, 0)], &[2], &SQUARE), [rectangle(-1, -1, 10, 1)]);
+    assert_eq!(rings(&[(5, 5)], &[1], &SQUARE), [rectangle(4, 4, 6, 6)]);
+    let bend = [(-1, -1), (10, -1), (10, 10), (8, 10), (8, 1), (-1, 1)].map(Point::from);
+    assert_eq!(rings(&[(0, 0), (9, 0), (9, 9), (9, 0)], &[4], &SQUARE), [bend]);
+    let slanted = [(-1, -1), (1, -1), (10, 8), (10, 10), (8, 10), (-1, 1)].map(Point::from);
+    assert_eq!(rings(&[(9, 9), (0, 0)], &[2], &SQUARE), [slanted]);
+    let aside = [(-1, -1), (5, -1), (-1, 5)].map(Point::from);
+    let beside = [(-1, -1), (14, -1), (8, 5), (-1, 5)].map(Point::from);
+    assert_eq!(rings(&[(0, 0), (9, 0)], &[2], &aside), [beside]);
+    let mut hole = rectangle(1, 1, 8, 8);
+    hole[1..].reverse();
+    let round = [(0, 0), (9, 0), (9, 9), (0, 9), (0, 0)];
+    assert_eq!(rings(&round, &[5], &SQUARE), [rectangle(-1, -1, 10, 10), hole]);
+    assert_eq!(rings(&round, &[2, 4, 5], &SQUARE).len(), 2, "two sides");
+    assert_eq!(
+        rings(&[(0, 0), (9, 0), (0, 2), (9, 2)], &[2, 4], &SQUARE),
+        [rectangle(-1, -1, 10, 3)]
+    );
+    assert!(rings(&[(0, 0), (9, 0)], &[0, 0], &SQUARE).is_empty());
+    let call = |x| {
+        let points = [(0, 0), (x, 0)].map(Point::from);
+        lines_by(
+            Rings {
+                points: &points,
+                ends: &[2],
+            },
+            &SQUARE,
+            FillRule::NonZero,
+        )
+        .map(|polygons| polygons.len())
+    };
+    assert_eq!(call(i32::MAX), Err(MinkowskiFault::Range));
+    assert_eq!(call(i32::MAX - 1), Ok(1));
+}
+
 /// Faulty shapes and rings are told by such a call.
 fn tells_faults(by: By) {
     let field = rectangle(0, 0, 9, 9);
@@ -119,6 +168,7 @@ fn tells_faults(by: By) {
 fn tells_faulty_shapes_and_rings() {
     tells_faults(minkowski);
     tells_faults(erode);
+    tells_faults(lines_by);
     let call = |points, ends, shape| {
         let made = minkowski(Rings { points, ends }, shape, FillRule::EvenOdd);
         made.map(|polygons| polygons.len())
@@ -134,7 +184,7 @@ fn tells_faulty_shapes_and_rings() {
         ),
         (
             MinkowskiFault::Shape,
-            "a shape by which polygons grow or shrink isn't convex around the origin",
+            "a shape to grow or shrink by isn't convex around the origin",
         ),
         (MinkowskiFault::Range, "what grows or shrinks leaves 32 bits"),
     ] {
@@ -194,4 +244,24 @@ fn is_refused_growth_where_memory_is() {
         assert!(requests > 10, "{requests} requests");
         assert_eq!(call().unwrap().polygon(0).holes().count(), 11 * 11);
     }
+}
+
+#[test]
+fn is_refused_growth_of_lines_where_memory_is() {
+    let points: Vec<Point> = (0..12)
+        .flat_map(|bar| [(0, 20 * bar), (240, 20 * bar), (20 * bar, 0), (20 * bar, 240)].map(Point::from))
+        .collect();
+    let ends: Vec<usize> = (1..=24).map(|line| 2 * line).collect();
+    let lines = Lines {
+        points: &points,
+        ends: &ends,
+    };
+    let call = || grow_lines(lines, &SQUARE);
+    let mut requests = 0;
+    while let Err(fault) = granted(requests, call) {
+        assert_eq!(fault, MinkowskiFault::Refused);
+        requests += 1;
+    }
+    assert!(requests > 10, "{requests} requests");
+    assert_eq!(call().unwrap().polygon(0).holes().count(), 11 * 11);
 }

@@ -5,6 +5,7 @@ pub mod HandleLemmas
 pub mod HandleMade
 pub mod HandleMadeBeside
 pub mod HandleMadeBy
+pub mod HandleMadeOf
 pub mod HandleReads
 pub mod LayerLemmas
 pub mod ListsMade

@@ -6,14 +6,15 @@ ghost use Rattle.overlay.specs.Rings.{HasEnds, edges_of};
 ghost use Rattle.offset.specs.Shape.{IsConvexAroundOrigin};
 ghost use Rattle.offset.specs.declared.fault.MinkowskiFault.TheVariants.{Lengths, Shape};
 ghost use Rattle.itree_c.specs.Overlay.{owns_polygons};
-ghost use Rattle.itree_c.specs.Offsets.{AnswersGrown, AreAllGrown, IsGrownFault};
+ghost use Rattle.itree_c.specs.Offsets.{AnswersGrown, AreAllGrown, IsOffsetFault, LeavesRange};
 ghost use Rattle.itree_c.specs.declared.polygon_lists.PolygonLists.{PolygonLists as Held};
 
 use crate::choices::rule_of;
 use crate::handle::Handle;
+use crate::offsets::offered;
 use crate::polygon_lists::{PolygonLists, offset_lists};
 use crate::raw::Raw;
-use crate::status::{ANSWERED, CHOICE, LENGTHS, RANGE, REFUSED, SHAPE};
+use crate::status::CHOICE;
 use offset::{MinkowskiFault, minkowski};
 use overlay::{FillRule, Point, Polygons, Rings};
 use std::alloc::Global;
@@ -64,13 +65,7 @@ fn all_grown<'a>(
     let Some(rule) = rule_of(rule) else {
         return (CHOICE, Raw::null(alloc));
     };
-    match boxed_grown(alloc, polygons, shape, rule) {
-        Ok(grown) => (ANSWERED, Raw::of(grown)),
-        Err(MinkowskiFault::Lengths) => (LENGTHS, Raw::null(alloc)),
-        Err(MinkowskiFault::Shape) => (SHAPE, Raw::null(alloc)),
-        Err(MinkowskiFault::Range) => (RANGE, Raw::null(alloc)),
-        Err(MinkowskiFault::OutOfMemory) => (REFUSED, Raw::null(alloc)),
-    }
+    offered(alloc, boxed_grown(alloc, polygons, shape, rule))
 }
 
 // The polygons of the sum, on the heap.
@@ -84,7 +79,7 @@ fn boxed_grown(
         × AreAllGrown rule (edges_of polygons.entry) shape.now grown.value) }
     ensures lengths { (result ≡ Err Lengths) ↔ ¬ (HasEnds polygons.entry) }
     ensures shape { (result ≡ Err Shape) ↔ (HasEnds polygons.entry × (¬ (IsConvexAroundOrigin shape.now))) }
-    ensures fault { IfErr result (IsGrownFault rule (edges_of polygons.entry) shape.now) }
+    ensures fault { IfErr result (IsOffsetFault (LeavesRange rule (edges_of polygons.entry) shape.now)) }
 {
     let mut made = Polygons::new(alloc);
     minkowski(polygons, rule, shape, &mut made)?;

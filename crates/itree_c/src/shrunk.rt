@@ -6,14 +6,15 @@ ghost use Rattle.overlay.specs.Rings.{HasEnds, edges_of};
 ghost use Rattle.offset.specs.Shape.{IsConvexAroundOrigin};
 ghost use Rattle.offset.specs.declared.fault.MinkowskiFault.TheVariants.{Lengths, Shape};
 ghost use Rattle.itree_c.specs.Overlay.{owns_polygons};
-ghost use Rattle.itree_c.specs.Offsets.{AnswersShrunk, AreAllShrunk, IsShrunkFault};
+ghost use Rattle.itree_c.specs.Offsets.{AnswersShrunk, AreAllShrunk, IsOffsetFault, LeavesRangeInside};
 ghost use Rattle.itree_c.specs.declared.polygon_lists.PolygonLists.{PolygonLists as Held};
 
 use crate::choices::rule_of;
 use crate::handle::Handle;
+use crate::offsets::offered;
 use crate::polygon_lists::{PolygonLists, offset_lists};
 use crate::raw::Raw;
-use crate::status::{ANSWERED, CHOICE, LENGTHS, RANGE, REFUSED, SHAPE};
+use crate::status::CHOICE;
 use offset::{MinkowskiFault, erode};
 use overlay::{FillRule, Point, Polygons, Rings};
 use std::alloc::Global;
@@ -65,13 +66,7 @@ fn all_shrunk<'a>(
     let Some(rule) = rule_of(rule) else {
         return (CHOICE, Raw::null(alloc));
     };
-    match boxed_shrunk(alloc, polygons, shape, rule) {
-        Ok(left) => (ANSWERED, Raw::of(left)),
-        Err(MinkowskiFault::Lengths) => (LENGTHS, Raw::null(alloc)),
-        Err(MinkowskiFault::Shape) => (SHAPE, Raw::null(alloc)),
-        Err(MinkowskiFault::Range) => (RANGE, Raw::null(alloc)),
-        Err(MinkowskiFault::OutOfMemory) => (REFUSED, Raw::null(alloc)),
-    }
+    offered(alloc, boxed_shrunk(alloc, polygons, shape, rule))
 }
 
 // The polygons of what is left, on the heap.
@@ -85,7 +80,7 @@ fn boxed_shrunk(
         × AreAllShrunk rule (edges_of polygons.entry) shape.now left.value) }
     ensures lengths { (result ≡ Err Lengths) ↔ ¬ (HasEnds polygons.entry) }
     ensures shape { (result ≡ Err Shape) ↔ (HasEnds polygons.entry × (¬ (IsConvexAroundOrigin shape.now))) }
-    ensures fault { IfErr result (IsShrunkFault rule (edges_of polygons.entry) shape.now) }
+    ensures fault { IfErr result (IsOffsetFault (LeavesRangeInside rule (edges_of polygons.entry) shape.now)) }
 {
     let mut made = Polygons::new(alloc);
     erode(polygons, rule, shape, &mut made)?;
