@@ -321,7 +321,7 @@ class Faults(unittest.TestCase):
                     requests += 1
                 finally:
                     library.refuse_after(ctypes.c_size_t(-1))
-            self.assertGreater(requests, 20)
+            self.assertGreater(requests, 10)
             self.assertEqual(len(made), wanted)
 
 

@@ -202,11 +202,11 @@ class _Given:
         for layer in self._lines:
             of_c, kept = layer.held(grid)
             before = len(numbers) // 2
-            numbers.frombytes(view_at(kept, of_c.points, 2 * of_c.point_count, "i"))
+            numbers.frombytes(view_at(kept, of_c.points, 2 * of_c.point_count, "i").cast("B"))
             ends.extend(before + stop for stop in view_at(kept, of_c.ends, of_c.line_count, "Q"))
         for it in self._points:
             at, count, kept = it.held(grid)
-            numbers.frombytes(view_at(kept, at, 2 * count, "i"))
+            numbers.frombytes(view_at(kept, at, 2 * count, "i").cast("B"))
             ends.extend(range(len(numbers) // 2 - count + 1, len(numbers) // 2 + 1))
         return held_rings(numbers, ends)
 
