@@ -386,7 +386,7 @@ int32_t itree_join(const struct itree_window *windows, size_t window_count, cons
  *                   NULL;
  *   ITREE_SHAPE     exactly where all that is well, and the shape isn't such a polygon: *polygons is NULL;
  *   ITREE_RANGE     and all that is well, but a corner of the curve is no point of 32 bits: *polygons is NULL.
- * polygons may not be NULL. What *polygons was before isn't looked at. It looks at each two corners of the shape. */
+ * polygons may not be NULL. What *polygons was before isn't looked at. */
 int32_t itree_minkowski(const struct itree_point *points, size_t point_count, const size_t *ring_ends,
                         size_t ring_count, const struct itree_point *shape, size_t corner_count, int32_t rule,
                         struct itree_polygons **polygons);

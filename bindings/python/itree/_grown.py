@@ -1,4 +1,4 @@
-"""What grows and shrinks, in whole units: the shape that goes round, its sum with rings and lines, and what of rings is left."""
+"""What grows and shrinks, in whole units: the shape that goes round, its sums with rings and lines, and the rest of rings."""
 
 from __future__ import annotations
 
@@ -15,7 +15,7 @@ from ._shapes import NOTHING, HeldRings
 
 Point = Tuple[int, int]
 
-# No circle has more corners: each two of them are looked at.
+# No circle has more corners.
 MOST_CORNERS = 8192
 _NON_ZERO, _UNION = RULES["nonzero"], OPERATIONS["union"]
 NOT_CONVEX = "the corners of a convex polygon with the origin inside are wanted, counterclockwise"

@@ -10,6 +10,7 @@ pub mod OppositeLemmas
 pub mod PieceLemmas
 pub mod PointLemmas
 pub mod RawLemmas
+pub mod RoundLemmas
 pub mod ShapeLemmas
 pub mod SideLemmas
 pub mod WoundLemmas

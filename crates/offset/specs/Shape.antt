@@ -1,6 +1,7 @@
 -- Shapes: convex polygons of whole points around the origin.
 use Rattle.std.specs.List.{zip}
-use Rattle.std.specs.Prelude.{ℕ, ◌+◌, cond, nat_eq, ℤ, pos, ◌-ℤ◌, ◌*ℤ◌, ◌≤ℤ◌, ◌<ℤ◌, List, [], ◌∷◌, ◌++◌, All, map}
+use Rattle.std.specs.Prelude.{ℕ, ◌+◌, ◌-◌, ◌<◌, cond, nat_eq, ℤ, pos, ◌-ℤ◌, ◌*ℤ◌, ◌≤ℤ◌, ◌<ℤ◌, List, [], ◌∷◌, ◌++◌, All, get_or, length, map}
+use Rattle.plane.specs.Ends.{edge_between}
 use Rattle.plane.specs.declared.edge.Edge.{Edge}
 use Rattle.plane.specs.declared.point.Point.{Point}
 use Rattle.plane.specs.Lines.{height_over}
@@ -36,6 +37,14 @@ pub record IsConvexAroundOrigin (corners : List Point) : Type 0 where
   pub turns : All (λ two. pos 0 <ℤ turn two.0 two.1) (neighbours (sides corners))
   -- no corner lies right of a side
   pub convex : All (λ side. All (λ corner. pos 0 ≤ℤ height_over side corner) corners) (sides corners)
+
+-- Once a corner doesn't lie left of the way from the origin to the first one, none behind it does. So the corners go round the
+-- origin once, if it lies left of each side.
+abbrev pub GoesRoundOnce : List Point → Type 0
+GoesRoundOnce corners =
+    (index : ℕ) (d : Point) → 1 < index → index < length corners
+    → swept (edge_between (get_or corners 0 d) (get_or corners (index - 1) d)) ≤ℤ pos 0
+    → swept (edge_between (get_or corners 0 d) (get_or corners index d)) ≤ℤ pos 0
 
 -- The point on the other side of the origin, as far from it.
 abbrev pub opposite : Point → Point

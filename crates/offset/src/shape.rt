@@ -1,12 +1,11 @@
 //! Shapes: convex polygons of whole points around the origin.
 
 ghost use Rattle.std.specs.Bool.{MatchBool};
-ghost use Rattle.std.specs.Prelude.{ℕ, ◌≡◌, ◌≢◌, ◌<◌, ◌<ℤ◌, ◌≤ℤ◌, All, AllPairs, get_or, length, pos};
-ghost use Rattle.plane.specs.Lines.{height_over};
+ghost use Rattle.std.specs.Prelude.{◌≡◌, ◌<◌, ◌<ℤ◌, All, get_or, length, pos};
 ghost use Rattle.plane.specs.Ends.{edge_between};
 ghost use Rattle.overlay.specs.Areas.{swept};
 ghost use Rattle.offset.specs.Raw.{nowhere};
-ghost use Rattle.offset.specs.Shape.{IsConvexAroundOrigin, neighbours, next_place, sides, turn};
+ghost use Rattle.offset.specs.Shape.{GoesRoundOnce, IsConvexAroundOrigin, neighbours, next_place, sides, turn};
 
 use plane::edge::{Edge, edge_between, height_over};
 use plane::point::Point;
@@ -15,42 +14,17 @@ use plane::vectors::{cross_product, vector_along};
 /// Whether these are the corners of a convex polygon that has the origin inside, counterclockwise: at each corner it turns left,
 /// the origin lies left of each side, no corner lies right of one, and none stands there twice.
 ///
-/// It looks at each two of the corners.
+/// It looks at each corner a few times.
 pub fn is_convex_around_origin(corners: &[Point]) -> bool
     ensures { MatchBool result (IsConvexAroundOrigin corners.now) (¬ (IsConvexAroundOrigin corners.now)) }
 {
-    !corners.is_empty()
-        && stand_once(corners)
-        && go_round_origin(corners)
-        && turn_left(corners)
-        && bend_inwards(corners)
-}
-
-// Whether no two of the points are the same.
-fn stand_once(points: &[Point]) -> bool
-    ensures { MatchBool result (AllPairs (λ point later. point ≢ later) points.now)
-        (¬ (AllPairs (λ point later. point ≢ later) points.now)) }
-{
-    for index in 0..points.len() {
-        if stands_before(points, index) {
-            return false;
-        }
+    if corners.is_empty() || !go_round_origin(corners) {
+        return false;
     }
-    true
-}
-
-// Whether the point at this place stands at one before it, too.
-fn stands_before(points: &[Point], index: usize) -> bool
-    requires { index < length points.now }
-    ensures { MatchBool result ((k : ℕ) × (k < index) × ((d : Point) → get_or points.now k d ≡ get_or points.now index d))
-        ((k : ℕ) (d : Point) → k < index → get_or points.now k d ≢ get_or points.now index d) }
-{
-    for before in 0..index {
-        if points[before] == points[index] {
-            return true;
-        }
+    if !turn_left(corners) {
+        return false;
     }
-    false
+    go_round_once(corners)
 }
 
 // Whether the origin lies left of each side.
@@ -82,30 +56,25 @@ fn turn_left(corners: &[Point]) -> bool
     true
 }
 
-// Whether no corner lies right of a side.
-fn bend_inwards(corners: &[Point]) -> bool
-    ensures { MatchBool result (All (λ side. All (λ corner. pos 0 ≤ℤ height_over side corner) corners.now) (sides corners.now))
-        (¬ (All (λ side. All (λ corner. pos 0 ≤ℤ height_over side corner) corners.now) (sides corners.now))) }
+// Whether, once a corner doesn't lie left of the way to the first one, none behind it does.
+fn go_round_once(corners: &[Point]) -> bool
+    ensures { MatchBool result (GoesRoundOnce corners.now) (¬ (GoesRoundOnce corners.now)) }
 {
-    for index in 0..corners.len() {
-        if !lie_left_of(side_at(corners, index), corners) {
+    for index in 2..corners.len() {
+        let before = sweep_between(corners[0], corners[index - 1]);
+        let here = sweep_between(corners[0], corners[index]);
+        if before <= 0 && here > 0 {
             return false;
         }
     }
     true
 }
 
-// Whether none of the points lies right of the side.
-fn lie_left_of(side: Edge, points: &[Point]) -> bool
-    ensures { MatchBool result (All (λ point. pos 0 ≤ℤ height_over side point) points.now)
-        (¬ (All (λ point. pos 0 ≤ℤ height_over side point) points.now)) }
+// Twice the area of the triangle of the origin and these: above 0 where it turns left from the one to the other.
+fn sweep_between(one: Point, other: Point) -> i128
+    ensures { result ≡ swept (edge_between one other) }
 {
-    for point in points {
-        if height_over(side, *point) < 0 {
-            return false;
-        }
-    }
-    true
+    height_over(edge_between(one, other), Point { x: 0, y: 0 })
 }
 
 /// The side of this number: from the corner of this number to the next one.
