@@ -4,3 +4,4 @@ pub mod Joined
 pub mod Mitres
 pub mod Pairs
 pub mod Tips
+pub mod Within

@@ -150,7 +150,7 @@ module _ (corners : List Point) (convex : IsConvexAroundOrigin corners) (rings :
               of_two edge side among of_side line inside
 
   -- there are points inside near each point of them
-  has-near : HaveNear bounds.outer edges
+  pub has-near : HaveNear bounds.outer edges
   has-near edge base k among of =
       let (point, one, close) = close-once edges bounds edge base among of k in (
         point,

@@ -29,11 +29,12 @@ use Rattle.offset.proofs.PieceLemmas.Sides.{all_passed, left_by, passed_by, wind
 use Rattle.offset.proofs.PieceLemmas.Triangles.{WindsOnce}
 use Rattle.offset.proofs.SideLemmas.Inner.{BoundOnce}
 
--- of one alone
-All-one : {X : Type 0} (P : X → Type 0) (x : X) → P x → All P (x ∷ [])
+-- Of one alone.
+pub All-one : {X : Type 0} (P : X → Type 0) (x : X) → P x → All P (x ∷ [])
 All-one P x is = All-cons P x [] is (All-nil P)
 
-origin : RationalPoint
+-- any point
+pub origin : RationalPoint
 origin = record { n = 1; x = pos 0; y = pos 0; positive = omega arith }
 
 module _ (corners : List Point) (convex : IsConvexAroundOrigin corners) where

@@ -368,13 +368,14 @@ end-of edge = (1, record { share = omega arith; x = last edge.x0 edge.x1; y = la
     last : (u v : ℤ) → v ≡ ((pos 1 *ℤ u) +ℤ (pos 1 *ℤ (v -ℤ u)))
     last u v = identity (number v) (plus (times (n_of 1) (number u)) (times (n_of 1) (minus (number v) (number u)))) (omega arith)
 
--- A point of a part of a fan that isn't on the moved side is of the sum.
+-- A point of the triangle between a point and a way from corner to corner, left of which the origin lies, is of the sum where it
+-- isn't on the moved way.
 pub sum-of_part : (outer : ℤ) (edges : List Edge) (corners : List Point) → IsConvexAroundOrigin corners → HaveNear outer edges → (point : RationalPoint) (edge : Edge) → Contains edges edge
-    → (side : Edge) → Contains (sides corners) side → Contains corners (start_of side) → Contains corners (end_of side)
+    → (side : Edge) → pos 0 <ℤ swept side → Contains corners (start_of side) → Contains corners (end_of side)
     → pos 0 ≤ℤ left_by (edge_between (end_of edge) (moved (end_of edge) (start_of side))) point → pos 0 ≤ℤ left_by (moved_edge (end_of edge) side) point
     → pos 0 ≤ℤ left_by (edge_between (moved (end_of edge) (end_of side)) (end_of edge)) point
     → ¬ (GoesThrough (moved_edge (end_of edge) side) point) → IsOfSumBeyond outer edges corners point
-sum-of_part outer edges corners convex near point edge among side side_held start_held end_held from before upto off =
+sum-of_part outer edges corners convex near point edge among side some start_held end_held from before upto off =
     found (natural (swept side) (omega (arith, ints, some))) (natural (cross a.x a.y p.x p.y) (let is = from_corner point.n point.x point.y v.x v.y a.x a.y b.x b.y in omega (arith, ints, is, from)))
   where
     v : Point
@@ -388,9 +389,6 @@ sum-of_part outer edges corners convex near point edge among side side_held star
 
     p : Point
     p = seen point v
-
-    some : pos 0 <ℤ swept side
-    some = All-contains (λ (e : Edge). pos 0 <ℤ swept e) (sides corners) side convex.left side_held
 
     corner-left : (other : Edge) → Contains (sides corners) other → (c : Point) → Contains corners c → pos 0 ≤ℤ height_over other c
     corner-left other other_held c c_held = All-contains (λ (d : Point). pos 0 ≤ℤ height_over other d) corners c (All-contains (λ (e : Edge). All (λ (d : Point). pos 0 ≤ℤ height_over e d) corners) (sides corners) other convex.convex other_held) c_held
@@ -482,7 +480,7 @@ module _ (corners : List Point) (convex : IsConvexAroundOrigin corners) where
     of-part is =
         let held = (follows-held corners convex rings proper is.edge is.next is.follows).0 in
         let side_held = fan-held corners convex point is.edge is.next is.side is.among in
-        sum-of_part outer (flat_map ring_edges rings) corners convex near point is.edge held is.side side_held (start-held corners is.side side_held) (end-held is.side side_held)
+        sum-of_part outer (flat_map ring_edges rings) corners convex near point is.edge held is.side (All-contains (λ (e : Edge). pos 0 <ℤ swept e) (sides corners) is.side convex.left side_held) (start-held corners is.side side_held) (end-held is.side side_held)
         is.from is.before is.upto
         (All-contains (λ (e : Edge). ¬ (GoesThrough e point)) (raw_edges corners rings) (moved_edge (end_of is.edge) is.side) off (side-held corners convex rings proper is.edge is.next is.side is.follows is.left is.among))
 
