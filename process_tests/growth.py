@@ -1,5 +1,5 @@
-"""The points that polygons and a convex shape add up to, which says what polygons that grow are to wind around; and such
-polygons and shapes by chance.
+"""The points that polygons, or paths, and a convex shape add up to, which says what is to be wound around where they grow, and
+those from which the shape lies inside; and such polygons, paths and shapes by chance.
 
 A point is of the sum where the shape, turned by half a circle and moved there, meets the polygons. Whether two convex parts
 meet is told by lines along their sides: they don't where one such line has them on both sides.
@@ -83,43 +83,42 @@ def raw_curve(rings, shape):
     return found
 
 
-def point_problems(rings, shape, made, points, grows=True):
-    """At which points, in parts, what is made winds otherwise than it is to: of rings that bound the inside, which grow by a
-    shape, or of which that is left around which the shape lies inside."""
-    raw = raw_curve(rings, shape) if grows else raw_curve([it[::-1] for it in rings], [(-x, -y) for x, y in shape])
-    edges, corners = edges_of(rings, PARTS), in_parts(shape)
-    is_wanted = is_of_sum if grows else is_of_rest
-    return problems_at(raw, lambda point: is_wanted(edges, corners, point), made, points)
+def is_of_paths(edges, shape, point):
+    """Whether a point is of the sum of edges, some of which are points, and a shape."""
+    x, y = point
+    corners = [(x - a, y - b) for a, b in shape]
+    return any(meets(edge, corners) for edge in edges)
 
 
-def raw_of_line(line, shape):
-    """The edges of the shape at each point of a line, and of the parallelogram along each of its edges."""
-    found = [moved(side, at) for at in line for side in edges_of([shape])]
-    for start, end in zip(line, line[1:]):
-        edge, back = (*start, *end), (*end, *start)
-        right, left = furthest(shape, vector(edge)), furthest(shape, vector(back))
-        found += [moved(edge, right), moved((*right, *left), end), moved(back, left), moved((*left, *right), start)]
+def steps_of(paths, scale=1):
+    """The edges of paths, from each point to the next, and each point as an edge, with so many times their coordinates."""
+    ends = [pair for path in paths for pair in (*zip(path, path), *zip(path, path[1:]))]
+    return [(x0 * scale, y0 * scale, x1 * scale, y1 * scale) for (x0, y0), (x1, y1) in ends]
+
+
+def raw_of_paths(paths, shape):
+    """The edges of the shapes at each point of paths, and of the parallelograms along each edge."""
+    found = []
+    for x0, y0, x1, y1 in steps_of(paths):
+        if (x0, y0) == (x1, y1):
+            found += [moved(side, (x0, y0)) for side in edges_of([shape])]
+            continue
+        right, left = furthest(shape, (x1 - x0, y1 - y0)), furthest(shape, (x0 - x1, y0 - y1))
+        found += [moved((x0, y0, x1, y1), right), moved((x1, y1, x0, y0), left)]
+        found += [moved((*right, *left), (x1, y1)), moved((*left, *right), (x0, y0))]
     return found
 
 
-def line_problems(random, line, shape, made):
-    """The same at points by chance, of a line that grows by a shape."""
-    raw, corners = raw_of_line(line, shape), in_parts(shape)
-    edges = [(*start, *end) for start, end in zip(in_parts(line), in_parts(line)[1:] or in_parts(line))]
-
-    def is_wanted(point):
-        return any(meets(edge, [(point[0] - a, point[1] - b) for a, b in corners]) for edge in edges)
-
-    return problems_at(raw, is_wanted, made, points_about(random, raw))
+def inner_curve(rings, shape):
+    """The edges of the curve within rings around what is left of them: that of the rings the other way round, with the shape
+    turned by half a circle."""
+    return raw_curve([it[::-1] for it in rings], [(-x, -y) for x, y in shape])
 
 
-def in_parts(points):
-    return [(x * PARTS, y * PARTS) for x, y in points]
-
-
-def problems_at(raw, is_wanted, made, points):
-    """At which points, in parts, what is made winds otherwise than it is to, if none of these edges is near them."""
-    near, answer = [tuple(number * PARTS for number in edge) for edge in raw], edges_of(made, PARTS)
+def problems_at(points, raw, made, is_wanted):
+    """At which points, in parts, that no moved edge may be near to, what is made winds otherwise than it is to."""
+    near = [tuple(number * PARTS for number in edge) for edge in raw]
+    answer = edges_of(made, PARTS)
     for point in points:
         if any(is_on(edge, point) if is_along_axis(edge) else is_near(edge, point, HALF) for edge in near):
             continue
@@ -127,6 +126,20 @@ def problems_at(raw, is_wanted, made, points):
         if winding(answer, point) != wanted:
             where = f"{point[0]}/{PARTS} {point[1]}/{PARTS}"
             yield f"around {where} it winds {winding(answer, point)} times in place of {int(wanted)}"
+
+
+def point_problems(rings, shape, made, points, grows=True):
+    """At which points, in parts, what is made winds otherwise than it is to: of rings that bound the inside, which grow by a
+    shape, or of which that is left around which the shape lies inside."""
+    edges, corners = edges_of(rings, PARTS), [(x * PARTS, y * PARTS) for x, y in shape]
+    raw, is_of = (raw_curve, is_of_sum) if grows else (inner_curve, is_of_rest)
+    return problems_at(points, raw(rings, shape), made, lambda point: is_of(edges, corners, point))
+
+
+def path_problems(paths, shape, made, points):
+    """The same of paths that grow by a shape."""
+    edges, corners = steps_of(paths, PARTS), [(x * PARTS, y * PARTS) for x, y in shape]
+    return problems_at(points, raw_of_paths(paths, shape), made, lambda point: is_of_paths(edges, corners, point))
 
 
 def is_on(edge, point):
@@ -211,13 +224,22 @@ def some_rings(random, has_hole):
     return rings
 
 
+def some_paths(random):
+    """One path to three by chance, of a point to five, some of which stand there twice in a row."""
+    paths = []
+    for _ in range(random.randint(1, 3)):
+        path = [(random.randint(-12, 12), random.randint(-12, 12)) for _ in range(random.randint(1, 5))]
+        paths.append([*path, path[-1]] if not random.randrange(8) else path)
+    return paths
+
+
 def some_points(random, rings, shape):
     """Points about the curve around the sum, in parts."""
     return points_about(random, raw_curve(rings, shape))
 
 
 def points_about(random, raw):
-    """Points about these edges, in parts."""
+    """Points about edges, in parts."""
     for _ in range(LOOKS):
         x0, y0, x1, y1 = random.choice(raw)
         share = random.randrange(PARTS + 1)

@@ -17,6 +17,9 @@ OF_KEYS = "insert, less, leq or clear is wanted"
 OF_SETS = "insert, delete, find or before is wanted"
 OF_SEGMENTS = "insert, query or clear is wanted"
 OF_RINGS = "subject or clip is wanted"
+GROWTH = "grow, shrink or lines is wanted"
+OF_GROWTH = "subject or shape is wanted"
+OF_PATHS = "line or shape is wanted"
 
 # Modes, the text, and the faulty line with the column, the word and what is wanted.
 LINES = (
@@ -66,6 +69,10 @@ LINES = (
     ("overlay union nonzero", b"subject 0 0 6 0 6\n", (1, 17, "6", ONE_MORE)),
     ("overlay xor evenodd", b"subject 0 0\nclip 0 0 6 0 six 6\n", (2, 14, "six", NUMBER)),
     ("overlay", b"subject 0 0\nclip 3000000000 1\n", (2, 6, "3000000000", NUMBER)),
+    ("offset grow nonzero", b"line 0 0\n", (1, 1, "line", OF_GROWTH)),
+    ("offset shrink evenodd", b"subject 0 0\nshape 0 x\n", (2, 9, "x", NUMBER)),
+    ("offset lines", b"subject 0 0\n", (1, 1, "subject", OF_PATHS)),
+    ("offset lines", b"line 0 0 1\n", (1, 10, "1", ONE_MORE)),
     # What isn't printed is told by escapes, and a long word is cut.
     ("setlist", b"\xef\xbb\xbffind 4\n", (1, 1, "\\u{feff}find", OF_SETS)),
     ("setlist", b"find 4\x00\n", (1, 6, "4\\0", NUMBER)),
@@ -135,6 +142,13 @@ ARGUMENTS = (
     (["overlay", "--window=0"], "--window=0", CHOICE),
     (["overlay", "--window", "0", "0", "4", "4", "5"], "5", CHOICE),
     (["overlay", "--rule=evenodd", "--window", "0", "4", "4", "-4"], "-4", ABOVE),
+    (["offset"], "offset", f"{GROWTH} behind it"),
+    (["offset", "grown"], "grown", GROWTH),
+    (["offset", "nonzero", "grow"], "nonzero", GROWTH),
+    (["offset", "grow"], "grow", f"{RULE} behind it"),
+    (["offset", "shrink", "even"], "even", RULE),
+    (["offset", "grow", "nonzero", "extra"], "extra", NO_MORE),
+    (["offset", "lines", "nonzero"], "nonzero", NO_MORE),
     *(([*IN_WINDOW, *sides], word, wanted) for sides, word, wanted in WINDOWS),
 )
 

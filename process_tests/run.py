@@ -47,6 +47,7 @@ WHERE_LISTED = {
     "nodes": "node",
     "overlays": "overlay OPERATION RULE",
     "windows": "overlay OPERATION RULE --window X0 Y0 X1 Y1",
+    "offsets": "offset grow RULE",
     "still": "overlay OPERATION RULE",
     "long_overlays": "overlay OPERATION RULE",
 }

@@ -19,6 +19,7 @@ import crossings
 import meetings
 import messages
 import nodes
+import offsets
 import documents
 import histories
 import locates
@@ -45,6 +46,7 @@ OVERLAYS = overlays.worked, overlays.faulty, overlays.nested, long_overlays.few
 WHERE_LISTED = {"crossings": (crossings.worked,), "snap": (snaps.worked,), "node": (nodes.worked, nodes.rows_by_model)}
 WHERE_LISTED |= {"overlay OPERATION RULE": OVERLAYS}
 WHERE_LISTED |= {"overlay OPERATION RULE --window X0 Y0 X1 Y1": (windows.worked,)}
+WHERE_LISTED |= {"offset grow RULE": (offsets.worked, offsets.unfit, offsets.faulty)}
 READ = "keytree", "setlist", "seg"
 
 CRATE = os.path.normpath(os.path.join(os.path.dirname(os.path.abspath(__file__)), "..", "crates", "itree"))

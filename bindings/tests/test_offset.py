@@ -241,7 +241,8 @@ class ByChance(unittest.TestCase):
             held = held_rings(numbers, array.array("Q", [len(line)]))
             polygons = itree.Polygons(_grown.grown_lines(held, shape, 0), None)
             made = [ring for polygon in polygons for ring in (polygon.outer, *polygon.holes)]
-            self.assertEqual(list(growth.line_problems(chance, line, shape, made)), [], (line, shape))
+            points = growth.points_about(chance, growth.raw_of_paths([line], shape))
+            self.assertEqual(list(growth.path_problems([line], shape, made, points)), [], (line, shape))
 
 
 class Faults(unittest.TestCase):

@@ -6,6 +6,7 @@ pub mod Counting
 pub mod Crossings
 pub mod Faults
 pub mod FaultyWords
+pub mod Grown
 pub mod Located
 pub mod Meetings
 pub mod Ringed

@@ -6,7 +6,9 @@ use Rattle.std.proofs.lemmas.List.Elements.{filter_map-append}
 use Rattle.std.specs.List.{between, flat_map}
 use Rattle.itree.specs.Grammar.{ReadsAll, Says}
 use Rattle.itree.specs.Replies.{polygon_lines, ring_line}
-use Rattle.itree.specs.RingLines.{RingLine, Subject, Clip, subject_in, clip_in, subject_of, clip_of, coordinates, Holds, HoldsSaid}
+use Rattle.itree.specs.RingLines.{RingLine, Subject, Other, subject_in, other_in, subject_of, others_of, coordinates, Holds, HoldsSaid, SaysRing, subject_name, other_name}
+use Rattle.itree.specs.declared.lines.rings.RingKind.{RingKind}
+use Rattle.itree.specs.declared.lines.rings.RingKind.TheVariants.{Overlay, Growth, Paths}
 use Rattle.itree.specs.declared.lines.rings.RingList.{RingList}
 use Rattle.itree.specs.declared.lines.rings.SaidRings.{SaidRings}
 use Rattle.noding.specs.Offsets.{AreJoined, offsets}
@@ -46,6 +48,29 @@ says_named words word rest name numbers is named read = subst (λ (all : List (B
 
 abbrev pub SaysPoints : List (Bor (List ℕ)) → List Point → Type 0
 SaysPoints words ring = ReadsAll (map (λ word. word.now) words) (coordinates ring)
+
+-- the two words that begin lines of a kind differ
+apart : (kind : RingKind) → subject_name kind ≡ other_name kind → ⊥
+apart Overlay same = omega (arith, ap length same)
+apart Growth same = omega (arith, ap length same)
+apart Paths same = omega (arith, ap length same)
+
+-- which words say no ring: such as begin with a line's word, and go on with no points, or begin with neither
+module _ (kind : RingKind) (words : List (Bor (List ℕ))) (word : Bor (List ℕ)) (rest : List (Bor (List ℕ))) (is : words ≡ word ∷ rest) where
+  said_of : (ring : RingLine) → SaysRing kind (map (λ word. word.now) words) ring → SaysRing kind (word.now ∷ map (λ word. word.now) rest) ring
+  said_of ring says = subst (λ (all : List (Bor (List ℕ))). SaysRing kind (map (λ word. word.now) all) ring) is says
+
+  pub unsaid-subject : word.now ≡ subject_name kind → ((ring : List Point) → ¬ (SaysPoints rest ring)) → (ring : RingLine) → ¬ (SaysRing kind (map (λ word. word.now) words) ring)
+  unsaid-subject named none (Subject ring) says = none ring (said_of (Subject ring) says).1
+  unsaid-subject named none (Other ring) says = apart kind (sym named ∙ (said_of (Other ring) says).0)
+
+  pub unsaid-other : word.now ≡ other_name kind → ((ring : List Point) → ¬ (SaysPoints rest ring)) → (ring : RingLine) → ¬ (SaysRing kind (map (λ word. word.now) words) ring)
+  unsaid-other named none (Subject ring) says = apart kind (sym (said_of (Subject ring) says).0 ∙ named)
+  unsaid-other named none (Other ring) says = none ring (said_of (Other ring) says).1
+
+  pub unsaid-neither : ¬ (word.now ≡ subject_name kind) → ¬ (word.now ≡ other_name kind) → (ring : RingLine) → ¬ (SaysRing kind (map (λ word. word.now) words) ring)
+  unsaid-neither not_subject not_other (Subject ring) says = not_subject (said_of (Subject ring) says).0
+  unsaid-neither not_subject not_other (Other ring) says = not_other (said_of (Other ring) says).0
 
 -- two words say the first point
 says_next : (pair rest : List (Bor (List ℕ))) (x y : ℤ) (more : List Point) → ReadsAll (map (λ word. word.now) pair) (x ∷ y ∷ []) → SaysPoints rest more → SaysPoints (pair ++ rest) (record { x = x; y = y } ∷ more)
@@ -107,18 +132,18 @@ Holds-more old new rings ring points_are ends_are (held, stops) =
 
 -- so do both lists: a ring of the subject
 pub HoldsSaid-subject : {A : Type 0} (rings : SaidRings A) (list : RingList A) (ring : List Point) → ((all : List (List Point)) → Holds rings.subject all → Holds list (all ++ ring ∷ []))
-    → (said : List RingLine) → HoldsSaid rings said → HoldsSaid (record { subject = list; clip = rings.clip }) (said ++ Subject ring ∷ [])
-HoldsSaid-subject rings list ring more said (subject, clip) = (
+    → (said : List RingLine) → HoldsSaid rings said → HoldsSaid (record { subject = list; other = rings.other }) (said ++ Subject ring ∷ [])
+HoldsSaid-subject rings list ring more said (subject, other) = (
   subst (Holds list) (sym (filter_map-append subject_in said (Subject ring ∷ []))) (more (subject_of said) subject),
-  subst (Holds rings.clip) (sym (filter_map-append clip_in said (Subject ring ∷ []) ∙ append-nil (clip_of said))) clip,
+  subst (Holds rings.other) (sym (filter_map-append other_in said (Subject ring ∷ []) ∙ append-nil (others_of said))) other,
 )
 
--- and one of the clip
-pub HoldsSaid-clip : {A : Type 0} (rings : SaidRings A) (list : RingList A) (ring : List Point) → ((all : List (List Point)) → Holds rings.clip all → Holds list (all ++ ring ∷ []))
-    → (said : List RingLine) → HoldsSaid rings said → HoldsSaid (record { subject = rings.subject; clip = list }) (said ++ Clip ring ∷ [])
-HoldsSaid-clip rings list ring more said (subject, clip) = (
-  subst (Holds rings.subject) (sym (filter_map-append subject_in said (Clip ring ∷ []) ∙ append-nil (subject_of said))) subject,
-  subst (Holds list) (sym (filter_map-append clip_in said (Clip ring ∷ []))) (more (clip_of said) clip),
+-- and another one
+pub HoldsSaid-other : {A : Type 0} (rings : SaidRings A) (list : RingList A) (ring : List Point) → ((all : List (List Point)) → Holds rings.other all → Holds list (all ++ ring ∷ []))
+    → (said : List RingLine) → HoldsSaid rings said → HoldsSaid (record { subject = rings.subject; other = list }) (said ++ Other ring ∷ [])
+HoldsSaid-other rings list ring more said (subject, other) = (
+  subst (Holds rings.subject) (sym (filter_map-append subject_in said (Other ring ∷ []) ∙ append-nil (subject_of said))) subject,
+  subst (Holds list) (sym (filter_map-append other_in said (Other ring ∷ []))) (more (others_of said) other),
 )
 
 -- ---- rings for a call
@@ -135,8 +160,11 @@ module _ (rings : List (List Point)) (taken : Rings) (points : List Point) (ends
   pub HasEnds-held : HasEnds taken
   HasEnds-held = AreEnds-joined rings taken.points.now taken.ends.now (same ∙ held.0, too ∙ held.1)
 
+  pub rings-held : rings_of taken.points.now 0 taken.ends.now ≡ rings
+  rings-held = rings_of-joined rings taken.points.now taken.ends.now (same ∙ held.0, too ∙ held.1)
+
   pub edges-held : edges_of taken ≡ flat_map ring_edges rings
-  edges-held = ap (λ (all : List (List Point)). flat_map ring_edges all) (rings_of-joined rings taken.points.now taken.ends.now (same ∙ held.0, too ∙ held.1))
+  edges-held = ap (λ (all : List (List Point)). flat_map ring_edges all) rings-held
 
 -- polygons that are appended to none are all there are
 module _ {A : Type 0} (polygons : List (List (List Point))) (old new : Polygons A) (appended : Appends polygons old new) (no_points : old.points.items ≡ []) (no_rings : old.ring_ends.items ≡ []) (none : old.polygon_ends.items ≡ []) where

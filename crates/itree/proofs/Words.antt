@@ -2,11 +2,11 @@
 use Rattle.std.proofs.Common.{◌≡◌, ◌≢◌, ◌⊎◌, inl, inr, ℕ, suc, ◌+◌, ℤ, Bool, true, false, List, [], ◌∷◌, Option, Some, None, length, map, codes, get_or, refl, sym, ap, ap₂, ◌∙◌, subst, arith, Bor}
 use Rattle.itree.specs.Grammar.{ReadsAll, Says, LineSays, words_of}
 use Rattle.itree.specs.KeyLines.{SaysNoKeyCommand}
-use Rattle.itree.specs.Modes.{row_of, Names, NamesRange, NamesOverlay, Chooses}
+use Rattle.itree.specs.Modes.{row_of, Names, NamesRange, Chooses}
 use Rattle.itree.specs.SegLines.{SaysNoSegCommand}
 use Rattle.itree.specs.Texts.{HasFirstFaulty}
 use Rattle.itree.specs.declared.mode.Mode.{Mode}
-use Rattle.itree.specs.declared.mode.Mode.TheVariants.{KeyTree, KeyList, SetTree, SetList, Segments, Sweep, Meetings, Locate, Crossings, Snap, Node, Overlay, Tile}
+use Rattle.itree.specs.declared.mode.Mode.TheVariants.{KeyTree, KeyList, SetTree, SetList, Segments, Sweep, Meetings, Locate, Crossings, Snap, Node, Overlay, Tile, Grow, Shrink, Paths}
 use Rattle.std.proofs.lemmas.Slice.Eq.{bytes_eq-Decides}
 use Rattle.std.specs.Option.{option_eq}
 use Rattle.std.specs.Str.{bytes_eq}
@@ -78,12 +78,29 @@ pub Names-numbers : (words : List (Bor (List ℕ))) (mode : Mode) → Names word
 Names-numbers [] mode names = absurd names.0
 Names-numbers (word ∷ words) mode names = ap suc (Chooses-length words (row_of mode).choices (row_of mode).numbers names.0.1)
 
--- so they are one word, three or eight
-pub Names-length : (words : List (Bor (List ℕ))) (mode : Mode) → Names words mode → (length words ≡ 1) ⊎ ((length words ≡ 3) ⊎ (length words ≡ 8))
-Names-length words (Segments min max) names = inr (inl (Names-numbers words (Segments min max) names))
-Names-length words (Overlay operation rule) names = inr (inl (Names-numbers words (Overlay operation rule) names))
-Names-length words (Tile window operation rule) names = inr (inr (Names-numbers words (Tile window operation rule) names))
+-- so they are one word, two, three or eight
+pub Names-length : (words : List (Bor (List ℕ))) (mode : Mode) → Names words mode → (length words ≡ 1) ⊎ ((length words ≡ 2) ⊎ ((length words ≡ 3) ⊎ (length words ≡ 8)))
+Names-length words (Segments min max) names = inr (inr (inl (Names-numbers words (Segments min max) names)))
+Names-length words (Overlay operation rule) names = inr (inr (inl (Names-numbers words (Overlay operation rule) names)))
+Names-length words (Grow rule) names = inr (inr (inl (Names-numbers words (Grow rule) names)))
+Names-length words (Shrink rule) names = inr (inr (inl (Names-numbers words (Shrink rule) names)))
+Names-length words Paths names = inr (inl (Names-numbers words Paths names))
+Names-length words (Tile window operation rule) names = inr (inr (inr (Names-numbers words (Tile window operation rule) names)))
 Names-length words mode names = inl (Names-numbers words mode names)
+
+-- two words that name a mode are `offset` and `lines`
+pub Names-two : (words : List (Bor (List ℕ))) (mode : Mode) (word : Bor (List ℕ)) → length words ≡ 2 → Names words mode
+    → ((get_or words 0 word).now ≡ codes "offset") × ((get_or words 1 word).now ≡ codes "lines")
+Names-two [] mode word two names = absurd names.0
+Names-two (first ∷ []) Paths word two names = absurd names.0.1
+Names-two (first ∷ second ∷ words) Paths word two names = (names.0.0, names.0.1.0)
+Names-two (first ∷ words) mode word two names = absurd (omega (arith, two, Names-numbers (first ∷ words) mode names))
+
+-- three words, of which the first is this
+pub three_words : (words : List (Bor (List ℕ))) (word : Bor (List ℕ)) (name : List ℕ) → length words ≡ 3 → (get_or words 0 word).now ≡ name
+    → map (λ word. word.now) words ≡ name ∷ (get_or words 1 word).now ∷ (get_or words 2 word).now ∷ []
+three_words (a ∷ b ∷ c ∷ []) word name three first = ap (λ (one : List ℕ). one ∷ b.now ∷ c.now ∷ []) first
+three_words words word name three first = absurd (omega (arith, three))
 
 -- eight words, of which the first and the fourth are these
 pub eight_words : (words : List (Bor (List ℕ))) (word : Bor (List ℕ)) → length words ≡ 8 → (get_or words 0 word).now ≡ codes "overlay" → (get_or words 3 word).now ≡ codes "--window"
@@ -103,19 +120,23 @@ Names-eight (first ∷ second ∷ third ∷ []) (Tile window operation rule) wor
 Names-eight (first ∷ second ∷ third ∷ fourth ∷ words) (Tile window operation rule) word eight names = (names.0.0, names.0.1.1.1.0)
 Names-eight (first ∷ words) mode word eight names = absurd (omega (arith, eight, Names-numbers (first ∷ words) mode names))
 
--- three words that name a mode are `seg` and the ends of its range, or `overlay` and what it is chosen by
+-- three words that name a mode are `seg` and the ends of its range, or begin with `overlay` or `offset`
 pub Names-three : (words : List (Bor (List ℕ))) (mode : Mode) (word : Bor (List ℕ)) → length words ≡ 3 → Names words mode
     → (((get_or words 0 word).now ≡ codes "seg") × NamesRange (get_or words 1 word).now (get_or words 2 word).now mode)
-    ⊎ (((get_or words 0 word).now ≡ codes "overlay") × NamesOverlay (get_or words 1 word).now (get_or words 2 word).now mode)
+    ⊎ (((get_or words 0 word).now ≡ codes "overlay") ⊎ ((get_or words 0 word).now ≡ codes "offset"))
 Names-three [] mode word three names = absurd (omega (arith, three))
 Names-three (first ∷ []) (Segments min max) word three names = absurd names.0.1
 Names-three (first ∷ second ∷ []) (Segments min max) word three names = absurd names.0.1.1
 Names-three (first ∷ second ∷ third ∷ words) (Segments min max) word three names = inl (names.0.0, ((names.0.1.0, (names.0.1.1.0, tt)), names.1))
-Names-three (first ∷ []) (Overlay operation rule) word three names = absurd names.0.1
-Names-three (first ∷ second ∷ []) (Overlay operation rule) word three names = absurd names.0.1.1
-Names-three (first ∷ second ∷ third ∷ words) (Overlay operation rule) word three names =
-    inr (names.0.0, ap₂ (λ (one other : List ℕ). one ∷ other ∷ []) names.0.1.0 names.0.1.1.0)
+Names-three (first ∷ words) (Overlay operation rule) word three names = inr (inl names.0.0)
+Names-three (first ∷ words) (Grow rule) word three names = inr (inr names.0.0)
+Names-three (first ∷ words) (Shrink rule) word three names = inr (inr names.0.0)
 Names-three (first ∷ words) mode word three names = absurd (omega (arith, three, Names-numbers (first ∷ words) mode names))
+
+-- modes of different numbers of words are not named alike
+pub other_length : (words : List (Bor (List ℕ))) (one other : Mode) → Names words one → Names words other
+    → ¬ (suc (length (row_of one).choices + length (row_of one).numbers) ≡ suc (length (row_of other).choices + length (row_of other).numbers)) → ⊥
+other_length words one other names too apart = apart (sym (Names-numbers words one names) ∙ Names-numbers words other too)
 
 -- words name modes of one kind alone, so the line that is faulty in one of them is in each
 pub Names-faulty : (words : List (Bor (List ℕ))) (one other : Mode) (text : List ℕ) (number : ℕ) → Names words one → Names words other → HasFirstFaulty one text number → HasFirstFaulty other text number
@@ -139,6 +160,15 @@ Names-faulty (word ∷ words) (Overlay operation rule) (Overlay operation' rule'
 Names-faulty (word ∷ words) (Overlay operation rule) (Tile window' operation' rule') text number names too faulty = faulty
 Names-faulty (word ∷ words) (Tile window operation rule) (Overlay operation' rule') text number names too faulty = faulty
 Names-faulty (word ∷ words) (Tile window operation rule) (Tile window' operation' rule') text number names too faulty = faulty
+Names-faulty (word ∷ words) (Grow rule) (Grow rule') text number names too faulty = faulty
+Names-faulty (word ∷ words) (Grow rule) (Shrink rule') text number names too faulty = faulty
+Names-faulty (word ∷ words) (Shrink rule) (Grow rule') text number names too faulty = faulty
+Names-faulty (word ∷ words) (Shrink rule) (Shrink rule') text number names too faulty = faulty
+Names-faulty (word ∷ words) Paths Paths text number names too faulty = faulty
+Names-faulty (word ∷ words) (Grow rule) Paths text number names too faulty = absurd (other_length (word ∷ words) (Grow rule) Paths names too (λ same. omega (arith, same)))
+Names-faulty (word ∷ words) (Shrink rule) Paths text number names too faulty = absurd (other_length (word ∷ words) (Shrink rule) Paths names too (λ same. omega (arith, same)))
+Names-faulty (word ∷ words) Paths (Grow rule) text number names too faulty = absurd (other_length (word ∷ words) Paths (Grow rule) names too (λ same. omega (arith, same)))
+Names-faulty (word ∷ words) Paths (Shrink rule) text number names too faulty = absurd (other_length (word ∷ words) Paths (Shrink rule) names too (λ same. omega (arith, same)))
 Names-faulty (word ∷ words) one other text number names too faulty =
     let same : (row_of one).word ≡ (row_of other).word = sym names.0.0 ∙ too.0.0 in
     absurd (omega (arith, ap length same, ap (λ (letters : List ℕ). get_or letters 0 0) same))

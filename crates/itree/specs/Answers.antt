@@ -11,7 +11,7 @@ use Rattle.itree.specs.KeyLines.{KeyLine}
 use Rattle.runs.specs.KeyMachine as keys
 use Rattle.itree.specs.LocateLines.{IsLineBelow, edges_of, points_of as points_among}
 use Rattle.itree.specs.Replies.{key_reply_words, seg_reply_words, set_reply_words, height_words, met_words, crossing_lines, edge_words, chain_words, polygon_lines, reply_lines}
-use Rattle.itree.specs.RingLines.{RingLine, subject_of, clip_of}
+use Rattle.itree.specs.RingLines.{RingLine, subject_of, others_of, shape_of}
 use Rattle.itree.specs.SegLines.{SegLine}
 use Rattle.runs.specs.SegMachine as segments
 use Rattle.runs.specs.SegMachine.{Reply as seg_reply}
@@ -33,8 +33,18 @@ use Rattle.overlay.specs.declared.fill.rules.Operation.{Operation}
 use Rattle.overlay.specs.Overlay.{IsOverlay}
 use Rattle.tiles.specs.Tile.{IsTile}
 use Rattle.tiles.specs.declared.window.Window.{Window}
+use Rattle.offset.specs.Lines.{AreGrownLines, raw_of_paths}
+use Rattle.offset.specs.Minkowski.{IsErosionFault, IsGrown, IsShrunk, IsSumFault}
+use Rattle.offset.specs.Raw.{IsIn32Bits}
+use Rattle.offset.specs.Shape.{IsConvexAroundOrigin}
+use Rattle.offset.specs.declared.fault.MinkowskiFault.{MinkowskiFault}
+use Rattle.offset.specs.declared.fault.MinkowskiFault.TheVariants as minkowski_fault
 use Rattle.runs.specs.declared.keys.KeyReply.{KeyReply}
 use Rattle.runs.specs.declared.sets.SetReply.{SetReply}
+use Rattle.itree.specs.declared.fault.Fault.{Fault}
+use Rattle.itree.specs.declared.fault.Fault.TheVariants as faults
+use Rattle.itree.specs.declared.fault.Unfit.{Unfit}
+use Rattle.itree.specs.declared.fault.Unfit.TheVariants.{Shape, Range}
 use Rattle.itree.specs.declared.set_key.SetKey.{SetKey}
 use Rattle.itree.specs.declared.timed_key.TimedKey.{TimedKey}
 use Rattle.itree.specs.declared.timed_val.TimedVal.{TimedVal}
@@ -135,11 +145,55 @@ pub record AnswersNode (edges : List Edge) (output : List ℕ) : Type 0 where
 -- is their lines
 pub record AnswersOverlay (operation : Operation) (rule : FillRule) (said : List RingLine) (output : List ℕ) : Type 0 where
   pub polygons : List (List (List Point))
-  pub are : IsOverlay rule operation (flat_map ring_edges (subject_of said)) (flat_map ring_edges (clip_of said)) polygons
+  pub are : IsOverlay rule operation (flat_map ring_edges (subject_of said)) (flat_map ring_edges (others_of said)) polygons
   pub written : output ≡ flat_map polygon_lines polygons
 
 -- the polygons are what of them lies in the window, and the output is their lines
 pub record AnswersTile (window : Window) (operation : Operation) (rule : FillRule) (said : List RingLine) (output : List ℕ) : Type 0 where
   pub polygons : List (List (List Point))
-  pub are : IsTile window rule operation (flat_map ring_edges (subject_of said)) (flat_map ring_edges (clip_of said)) polygons
+  pub are : IsTile window rule operation (flat_map ring_edges (subject_of said)) (flat_map ring_edges (others_of said)) polygons
   pub written : output ≡ flat_map polygon_lines polygons
+
+-- the polygons are what the inside of the rings that are said becomes where it grows by the shape that is said, and the output is
+-- their lines
+pub record AnswersGrown (rule : FillRule) (said : List RingLine) (output : List ℕ) : Type 0 where
+  pub polygons : List (List (List Point))
+  pub shape : IsConvexAroundOrigin (shape_of said)
+  pub are : IsGrown rule (flat_map ring_edges (subject_of said)) (shape_of said) polygons
+  pub written : output ≡ flat_map polygon_lines polygons
+
+-- the polygons are what is left of it where the shape is taken along outside
+pub record AnswersShrunk (rule : FillRule) (said : List RingLine) (output : List ℕ) : Type 0 where
+  pub polygons : List (List (List Point))
+  pub shape : IsConvexAroundOrigin (shape_of said)
+  pub are : IsShrunk rule (flat_map ring_edges (subject_of said)) (shape_of said) polygons
+  pub written : output ≡ flat_map polygon_lines polygons
+
+-- the polygons are what the paths that are said become where they grow by the shape
+pub record AnswersPaths (said : List RingLine) (output : List ℕ) : Type 0 where
+  pub polygons : List (List (List Point))
+  pub shape : IsConvexAroundOrigin (shape_of said)
+  pub are : AreGrownLines (subject_of said) (shape_of said) polygons
+  pub written : output ≡ flat_map polygon_lines polygons
+
+-- why there is no such answer: the shape that is said is none, or a corner of the curve around what is made has no 32 bits
+abbrev pub IsUnfitGrown : FillRule → List RingLine → Unfit → Type 0
+IsUnfitGrown rule said Shape = ¬ (IsConvexAroundOrigin (shape_of said))
+IsUnfitGrown rule said Range = IsSumFault rule (flat_map ring_edges (subject_of said)) (shape_of said) minkowski_fault.Range
+
+-- and why none of what shrinks
+abbrev pub IsUnfitShrunk : FillRule → List RingLine → Unfit → Type 0
+IsUnfitShrunk rule said Shape = ¬ (IsConvexAroundOrigin (shape_of said))
+IsUnfitShrunk rule said Range = IsErosionFault rule (flat_map ring_edges (subject_of said)) (shape_of said) minkowski_fault.Range
+
+-- and why none of paths
+abbrev pub IsUnfitPaths : List RingLine → Unfit → Type 0
+IsUnfitPaths said Shape = ¬ (IsConvexAroundOrigin (shape_of said))
+IsUnfitPaths said Range = ¬ (All IsIn32Bits (raw_of_paths (shape_of said) (subject_of said)))
+
+-- for private contracts: how a call's fault is told, of which the ends are right
+abbrev pub fault_of : MinkowskiFault → Fault
+fault_of minkowski_fault.Lengths = faults.Memory
+fault_of minkowski_fault.Shape = faults.Unfit Shape
+fault_of minkowski_fault.Range = faults.Unfit Range
+fault_of minkowski_fault.OutOfMemory = faults.Memory

@@ -12,7 +12,9 @@ use Rattle.std.specs.declared.io.ErrorKind.TheVariants.{OutOfMemory}
 use Rattle.itree.specs.Grammar.{lines_of, words_of}
 use Rattle.itree.specs.Words.{Reads}
 use Rattle.itree.specs.declared.fault.Fault.{Fault}
-use Rattle.itree.specs.declared.fault.Fault.TheVariants.{Arguments, Line, Overlap, Cross, Memory, Reading, Writing}
+use Rattle.itree.specs.declared.fault.Fault.TheVariants.{Arguments, Line, Overlap, Cross, Unfit, Memory, Reading, Writing}
+use Rattle.itree.specs.declared.fault.Unfit.{Unfit as unfit}
+use Rattle.itree.specs.declared.fault.Unfit.TheVariants.{Shape, Range}
 use Rattle.itree.specs.declared.fault.wanted.Wanted.{Wanted}
 use Rattle.itree.specs.declared.fault.wanted.Wanted.TheVariants as wanted
 use Rattle.itree.specs.declared.fault.words.FaultyWord.{FaultyWord}
@@ -23,6 +25,7 @@ status_of Arguments = 2
 status_of (Line number) = 2
 status_of (Overlap number) = 2
 status_of (Cross first second) = 2
+status_of (Unfit why) = 2
 status_of Memory = 1
 status_of (Reading error) = 1
 status_of (Writing error) = 1
@@ -37,6 +40,8 @@ wanted_text wanted.OfEdges = codes "edge is wanted"
 wanted_text wanted.OfLocate = codes "edge or point is wanted"
 wanted_text wanted.OfCrossings = codes "edge or range is wanted"
 wanted_text wanted.OfRings = codes "subject or clip is wanted"
+wanted_text wanted.OfGrowth = codes "subject or shape is wanted"
+wanted_text wanted.OfPaths = codes "line or shape is wanted"
 wanted_text wanted.Number = codes "a whole number from -2147483648 to 2147483647 is wanted"
 wanted_text wanted.OneMore = codes "one more number is wanted behind it"
 wanted_text wanted.NoMore = codes "no further word is wanted"
@@ -50,6 +55,8 @@ wanted_text wanted.OperationBehind = codes "union, intersection, difference or x
 wanted_text wanted.Rule = codes "evenodd, nonzero, positive or negative is wanted"
 wanted_text wanted.RuleBehind = codes "evenodd, nonzero, positive or negative is wanted behind it"
 wanted_text wanted.Choice = codes "--operation, --rule or --window is wanted"
+wanted_text wanted.Growth = codes "grow, shrink or lines is wanted"
+wanted_text wanted.GrowthBehind = codes "grow, shrink or lines is wanted behind it"
 
 -- the byte is printed as it is, in ASCII
 abbrev pub is_plain : ℕ → Bool
@@ -92,6 +99,11 @@ TellsLine text number told =
     × (slice_get (lines_of text) (number - 1) ≡ Some line) × IsFaultyWord line found × Shows (between found.start found.end line) shown
     × (told ≡ codes "itree: line " ++ (decimal number ++ (codes ": column " ++ (decimal (found.start + 1) ++ (codes ": '" ++ (shown ++ (codes "': " ++ (wanted_text found.wanted ++ 10 ∷ [])))))))))
 
+-- the line tells why sound lines of what grows or shrinks have no answer
+abbrev pub TellsUnfit : unfit → List ℕ → Type 0
+TellsUnfit Shape told = told ≡ codes "itree: shape: its corners go round no convex polygon, counterclockwise, with the origin inside\n"
+TellsUnfit Range told = told ≡ codes "itree: range: a corner goes beyond the whole numbers from -2147483648 to 2147483647\n"
+
 -- the line tells that memory was refused
 abbrev pub TellsMemory : List ℕ → Type 0
 TellsMemory told = told ≡ codes "itree: memory was refused\n"
@@ -112,6 +124,7 @@ TellsFault words text Arguments told = TellsArguments words told
 TellsFault words text (Line number) told = TellsLine text number told
 TellsFault words text (Overlap number) told = told ≡ codes "itree: overlap " ++ (decimal number ++ 10 ∷ [])
 TellsFault words text (Cross first second) told = told ≡ codes "itree: cross " ++ (decimal first ++ (codes " " ++ (decimal second ++ 10 ∷ [])))
+TellsFault words text (Unfit why) told = TellsUnfit why told
 TellsFault words text Memory told = TellsMemory told
 TellsFault words text (Reading error) told = TellsReading error told
 TellsFault words text (Writing error) told = TellsWriting told

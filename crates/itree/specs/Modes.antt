@@ -2,7 +2,7 @@
 use Rattle.std.specs.Prelude.{◌≡◌, ◌⊎◌, ⊤, ℕ, ◌^◌, ℤ, ◌+ℤ◌, ◌-ℤ◌, ◌≤ℤ◌, ◌<ℤ◌, pos, List, [], ◌∷◌, map, codes}
 use Rattle.std.specs.Borrow.{Bor}
 use Rattle.i_tree.specs.Seg.Buckets.{HasLayout}
-use Rattle.itree.specs.Answers.{AnswersKeys, AnswersSet, AnswersRange, AnswersSweep, AnswersMeetings, AnswersLocate, AnswersCrossings, AnswersSnap, AnswersNode, AnswersOverlay, AnswersTile}
+use Rattle.itree.specs.Answers.{AnswersKeys, AnswersSet, AnswersRange, AnswersSweep, AnswersMeetings, AnswersLocate, AnswersCrossings, AnswersSnap, AnswersNode, AnswersOverlay, AnswersTile, AnswersGrown, AnswersShrunk, AnswersPaths, IsUnfitGrown, IsUnfitShrunk, IsUnfitPaths}
 use Rattle.itree.specs.MeetingsLines.{SaysEdge}
 use Rattle.itree.specs.CrossingsLines.{SaysCrossingsLine}
 use Rattle.itree.specs.Grammar.{ReadsAll}
@@ -16,8 +16,10 @@ use Rattle.itree.specs.declared.lines.crossings.CrossingsLine.{CrossingsLine}
 use Rattle.itree.specs.declared.lines.locate.LocateLine.{LocateLine}
 use Rattle.itree.specs.declared.lines.sweep.SweepLine.{SweepLine}
 use Rattle.plane.specs.declared.edge.Edge.{Edge}
+use Rattle.itree.specs.declared.fault.Unfit.{Unfit}
+use Rattle.itree.specs.declared.lines.rings.RingKind.TheVariants as kinds
 use Rattle.itree.specs.declared.mode.Mode.{Mode}
-use Rattle.itree.specs.declared.mode.Mode.TheVariants.{KeyTree, KeyList, SetTree, SetList, Segments, Sweep, Meetings, Locate, Crossings, Snap, Node, Overlay, Tile}
+use Rattle.itree.specs.declared.mode.Mode.TheVariants.{KeyTree, KeyList, SetTree, SetList, Segments, Sweep, Meetings, Locate, Crossings, Snap, Node, Overlay, Tile, Grow, Shrink, Paths}
 use Rattle.overlay.specs.declared.fill.rules.FillRule.{FillRule}
 use Rattle.overlay.specs.declared.fill.rules.FillRule.TheVariants.{EvenOdd, NonZero, Positive, Negative}
 use Rattle.overlay.specs.declared.fill.rules.Operation.{Operation}
@@ -26,8 +28,8 @@ use Rattle.tiles.specs.Window.{CanCropTo}
 use Rattle.tiles.specs.declared.window.Window.{Window}
 
 -- A mode: the word that names it, the words behind it that choose, and the numbers behind these, which are to fit; which words of a
--- line say which command; which output answers lines and the commands that they say; and which line of a text, and which two, tell
--- a fault beside a faulty one.
+-- line say which command; which output answers lines and the commands that they say; which line of a text, and which two, tell a
+-- fault beside a faulty one; and which commands have no answer, and why.
 pub record Row : Type 1 where
   pub word : List ℕ
   pub choices : List (List ℕ)
@@ -38,6 +40,7 @@ pub record Row : Type 1 where
   pub AnswersAll : List (List ℕ) → List Command → List ℕ → Type 0
   pub IsOverlap : List (List ℕ) → ℕ → Type 0
   pub AreCrossing : List (List ℕ) → ℕ → ℕ → Type 0
+  pub IsUnfit : List Command → Unfit → Type 0
 
 -- keys that expire, from nothing on
 abbrev pub keys_row : List ℕ → Row
@@ -51,6 +54,7 @@ keys_row word = record {
   AnswersAll = λ lines. AnswersKeys [];
   IsOverlap = λ lines number. ⊥;
   AreCrossing = λ lines first second. ⊥;
+  IsUnfit = λ commands why. ⊥;
 }
 
 -- a set, from nothing on
@@ -65,6 +69,7 @@ set_row word = record {
   AnswersAll = λ lines. AnswersSet [];
   IsOverlap = λ lines number. ⊥;
   AreCrossing = λ lines first second. ⊥;
+  IsUnfit = λ commands why. ⊥;
 }
 
 -- segments over a range that has a layout, from nothing on
@@ -79,6 +84,7 @@ segments_row min max = record {
   AnswersAll = λ lines. AnswersRange min max;
   IsOverlap = λ lines number. ⊥;
   AreCrossing = λ lines first second. ⊥;
+  IsUnfit = λ commands why. ⊥;
 }
 
 -- the points of a sweep, over its segments
@@ -93,6 +99,7 @@ sweep_row = record {
   AnswersAll = λ lines. AnswersSweep;
   IsOverlap = IsOverlapLine;
   AreCrossing = λ lines first second. ⊥;
+  IsUnfit = λ commands why. ⊥;
 }
 
 -- edges of the plane, each beside the earlier ones
@@ -107,6 +114,7 @@ meetings_row = record {
   AnswersAll = AnswersMeetings;
   IsOverlap = λ lines number. ⊥;
   AreCrossing = λ lines first second. ⊥;
+  IsUnfit = λ commands why. ⊥;
 }
 
 -- the points among edges of the plane
@@ -121,6 +129,7 @@ locate_row = record {
   AnswersAll = AnswersLocate;
   IsOverlap = λ lines number. ⊥;
   AreCrossing = AreCrossingLines;
+  IsUnfit = λ commands why. ⊥;
 }
 
 -- edges of the plane and ranges, beside the edges
@@ -135,6 +144,7 @@ crossings_row = record {
   AnswersAll = AnswersCrossings;
   IsOverlap = λ lines number. ⊥;
   AreCrossing = λ lines first second. ⊥;
+  IsUnfit = λ commands why. ⊥;
 }
 
 -- edges of the plane, each over its chain
@@ -149,6 +159,7 @@ chains_row word AnswersThese = record {
   AnswersAll = λ lines. AnswersThese;
   IsOverlap = λ lines number. ⊥;
   AreCrossing = λ lines first second. ⊥;
+  IsUnfit = λ commands why. ⊥;
 }
 
 -- the word of an operation
@@ -173,10 +184,11 @@ overlay_row operation rule = record {
   numbers = [];
   Fits = ⊤;
   Command = RingLine;
-  SaysCommand = SaysRing;
+  SaysCommand = SaysRing kinds.Overlay;
   AnswersAll = λ lines. AnswersOverlay operation rule;
   IsOverlap = λ lines number. ⊥;
   AreCrossing = λ lines first second. ⊥;
+  IsUnfit = λ commands why. ⊥;
 }
 
 -- the sides of a window
@@ -191,10 +203,56 @@ tile_row window operation rule = record {
   numbers = sides_of window;
   Fits = CanCropTo window;
   Command = RingLine;
-  SaysCommand = SaysRing;
+  SaysCommand = SaysRing kinds.Overlay;
   AnswersAll = λ lines. AnswersTile window operation rule;
   IsOverlap = λ lines number. ⊥;
   AreCrossing = λ lines first second. ⊥;
+  IsUnfit = λ commands why. ⊥;
+}
+
+-- the rings that grow by the rule, and the shape; and the polygons that they become
+abbrev pub grow_row : FillRule → Row
+grow_row rule = record {
+  word = codes "offset";
+  choices = codes "grow" ∷ rule_word rule ∷ [];
+  numbers = [];
+  Fits = ⊤;
+  Command = RingLine;
+  SaysCommand = SaysRing kinds.Growth;
+  AnswersAll = λ lines. AnswersGrown rule;
+  IsOverlap = λ lines number. ⊥;
+  AreCrossing = λ lines first second. ⊥;
+  IsUnfit = IsUnfitGrown rule;
+}
+
+-- the same rings and shape, and the polygons of what is left where they shrink
+abbrev pub shrink_row : FillRule → Row
+shrink_row rule = record {
+  word = codes "offset";
+  choices = codes "shrink" ∷ rule_word rule ∷ [];
+  numbers = [];
+  Fits = ⊤;
+  Command = RingLine;
+  SaysCommand = SaysRing kinds.Growth;
+  AnswersAll = λ lines. AnswersShrunk rule;
+  IsOverlap = λ lines number. ⊥;
+  AreCrossing = λ lines first second. ⊥;
+  IsUnfit = IsUnfitShrunk rule;
+}
+
+-- paths that grow, and the shape
+abbrev pub paths_row : Row
+paths_row = record {
+  word = codes "offset";
+  choices = codes "lines" ∷ [];
+  numbers = [];
+  Fits = ⊤;
+  Command = RingLine;
+  SaysCommand = SaysRing kinds.Paths;
+  AnswersAll = λ lines. AnswersPaths;
+  IsOverlap = λ lines number. ⊥;
+  AreCrossing = λ lines first second. ⊥;
+  IsUnfit = IsUnfitPaths;
 }
 
 -- for private contracts: a window may go from the one number to the other along an axis
@@ -216,6 +274,9 @@ row_of Snap = chains_row (codes "snap") AnswersSnap
 row_of Node = chains_row (codes "node") AnswersNode
 row_of (Overlay operation rule) = overlay_row operation rule
 row_of (Tile window operation rule) = tile_row window operation rule
+row_of (Grow rule) = grow_row rule
+row_of (Shrink rule) = shrink_row rule
+row_of Paths = paths_row
 
 -- the numbers of the mode fit: those of segments are the ends of a range that has a layout, those of an overlay a window's sides
 abbrev pub FitsItsNumbers : Mode → Type 0
@@ -224,10 +285,6 @@ FitsItsNumbers mode = (row_of mode).Fits
 -- the two words are read as the numbers of the mode, which fit
 abbrev pub NamesRange : List ℕ → List ℕ → Mode → Type 0
 NamesRange low high mode = ReadsAll (low ∷ high ∷ []) (row_of mode).numbers × (row_of mode).Fits
-
--- the two words are those that the mode is chosen by
-abbrev pub NamesOverlay : List ℕ → List ℕ → Mode → Type 0
-NamesOverlay operation rule mode = (operation ∷ rule ∷ []) ≡ (row_of mode).choices
 
 -- the words are these choices, and behind them such as are read as the numbers
 abbrev pub Chooses : List (List ℕ) → List (List ℕ) → List ℤ → Type 0

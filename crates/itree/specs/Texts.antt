@@ -4,7 +4,8 @@ use Rattle.std.specs.Borrow.{Bor}
 use Rattle.itree.specs.Grammar.{lines_of, LinesSay, IsFirstFaulty}
 use Rattle.itree.specs.Modes.{row_of, Names}
 use Rattle.itree.specs.declared.fault.Fault.{Fault}
-use Rattle.itree.specs.declared.fault.Fault.TheVariants.{Arguments, Line, Overlap, Cross, Memory, Reading, Writing}
+use Rattle.itree.specs.declared.fault.Fault.TheVariants.{Arguments, Line, Overlap, Cross, Unfit, Memory, Reading, Writing}
+use Rattle.itree.specs.declared.fault.Unfit.{Unfit as unfit}
 use Rattle.itree.specs.declared.mode.Mode.{Mode}
 
 -- the output answers the commands that the lines of the text say; whether a tree or a list is kept makes no difference
@@ -29,13 +30,20 @@ HasOverlapLine mode text number = (row_of mode).IsOverlap (lines_of text) number
 abbrev pub HasCrossingLines : Mode → List ℕ → ℕ → ℕ → Type 0
 HasCrossingLines mode text first second = (row_of mode).AreCrossing (lines_of text) first second
 
+-- of what grows or shrinks, the lines of the text say what has no answer, for this reason; no other mode has such
+abbrev pub HasUnfit : Mode → List ℕ → unfit → Type 0
+HasUnfit mode text why =
+    (commands : List (row_of mode).Command) × LinesSay (row_of mode).SaysCommand (lines_of text) commands
+    × (row_of mode).IsUnfit commands why
+
 -- a line of the text is faulty in the mode, or, in a sweep, says the first segment that overlaps, or, among edges and points,
--- two lines say edges that cross
+-- two lines say edges that cross, or, of what grows or shrinks, the lines say what has no answer
 abbrev pub HasFault : Mode → List ℕ → Type 0
 HasFault mode text =
     HasFaultyLine mode text
     ⊎ (((number : ℕ) × HasOverlapLine mode text number)
-    ⊎ ((first : ℕ) × (second : ℕ) × HasCrossingLines mode text first second))
+    ⊎ (((first : ℕ) × (second : ℕ) × HasCrossingLines mode text first second)
+    ⊎ ((why : unfit) × HasUnfit mode text why)))
 
 -- what a fault says of the input, in the mode that the arguments name: which of its lines are told
 abbrev pub IsFaultOf : List (Bor (List ℕ)) → Option (List ℕ) → Fault → Type 0
@@ -43,6 +51,7 @@ IsFaultOf words input (Line number) = (mode : Mode) → Names words mode → IfS
 IsFaultOf words input (Overlap number) = (mode : Mode) → Names words mode → IfSome input (λ text. HasOverlapLine mode text number)
 IsFaultOf words input (Cross first second) =
     (mode : Mode) → Names words mode → IfSome input (λ text. HasCrossingLines mode text first second)
+IsFaultOf words input (Unfit why) = (mode : Mode) → Names words mode → IfSome input (λ text. HasUnfit mode text why)
 IsFaultOf words input Arguments = ⊤
 IsFaultOf words input Memory = ⊤
 IsFaultOf words input (Reading error) = ⊤

@@ -5,17 +5,19 @@ ghost use Rattle.std.specs.Ordering.{int_cmp};
 ghost use Rattle.i_tree.specs.Set.Pairs.{values, IsOrdered};
 ghost use Rattle.itree.specs.Answers.{AnswersKeys, AnswersSet, AnswersSegments};
 ghost use Rattle.itree.specs.Modes.{FitsItsNumbers};
+ghost use Rattle.itree.specs.declared.fault.Unfit.{Unfit};
 ghost use Rattle.itree.specs.Sorting.{Sorts, SortsAll};
-ghost use Rattle.itree.specs.Texts.{Answers, HasFirstFaulty, HasOverlapLine, HasCrossingLines};
+ghost use Rattle.itree.specs.Texts.{Answers, HasFirstFaulty, HasOverlapLine, HasCrossingLines, HasUnfit};
 ghost use Rattle.runs.specs.SegMachine.{reply_of};
 
 use crate::fault::Fault;
-use crate::lines::{KeyLine, SegLine, SetLine, parse_commands, parse_rings, reply_text};
+use crate::lines::{KeyLine, RingKind, SegLine, SetLine, parse_commands, parse_rings, reply_text};
 use crate::mode::Mode;
 use crate::set_key::SetKey;
 use crate::timed_key::TimedKey;
 use crate::timed_val::TimedVal;
 use crossings::answer_crossings;
+use growth::{answer_grown, answer_paths, answer_shrunk};
 use i_tree::key::exp::KeyExpCollection;
 use i_tree::key::list::KeyExpList;
 use i_tree::key::tree::KeyExpTree;
@@ -36,6 +38,7 @@ use std::cmp::Ordering;
 use sweep::answer_sweep;
 
 mod crossings;
+mod growth;
 mod locate;
 mod meetings;
 mod node;
@@ -47,8 +50,9 @@ mod sweep;
 ///
 /// The range of a mode of segments is to have a layout. The answer is `Fault::Line` with the number of the first faulty
 /// line, before any command is run, `Fault::Overlap` with the number of the line whose segment is the first of a sweep that
-/// overlaps, `Fault::Cross` with the numbers of two lines whose edges cross, where they are not to, or `Fault::Memory` where
-/// memory was refused.
+/// overlaps, `Fault::Cross` with the numbers of two lines whose edges cross, where they are not to, `Fault::Unfit` where the shape
+/// that something grows or shrinks by is none, or a corner of what is made has no 32 bits, or `Fault::Memory` where memory was
+/// refused.
 pub fn answer_text<A: Allocator + Copy>(
     alloc: A,
     mode: Mode,
@@ -60,6 +64,7 @@ pub fn answer_text<A: Allocator + Copy>(
     ensures overlap { (number : ℕ) → result ≡ Err (Fault.Overlap number) → HasOverlapLine mode text.now number }
     ensures crossing { (first second : ℕ) → result ≡ Err (Fault.Cross first second) →
         HasCrossingLines mode text.now first second }
+    ensures unfit { (why : Unfit) → result ≡ Err (Fault.Unfit why) → HasUnfit mode text.now why }
     ensures err { IfErr result (λ fault. fault ≢ Fault.Arguments) }
 {
     match mode {
@@ -117,7 +122,7 @@ pub fn answer_text<A: Allocator + Copy>(
             answer_node(alloc, &edges)
         }
         Mode::Overlay { operation, rule } => {
-            let said = parse_rings(alloc, text)?;
+            let said = parse_rings(alloc, RingKind::Overlay, text)?;
             answer_rings(alloc, operation, rule, &said)
         }
         Mode::Tile {
@@ -125,8 +130,20 @@ pub fn answer_text<A: Allocator + Copy>(
             operation,
             rule,
         } => {
-            let said = parse_rings(alloc, text)?;
+            let said = parse_rings(alloc, RingKind::Overlay, text)?;
             answer_tile(alloc, window, operation, rule, &said)
+        }
+        Mode::Grow { rule } => {
+            let said = parse_rings(alloc, RingKind::Growth, text)?;
+            answer_grown(alloc, rule, &said)
+        }
+        Mode::Shrink { rule } => {
+            let said = parse_rings(alloc, RingKind::Growth, text)?;
+            answer_shrunk(alloc, rule, &said)
+        }
+        Mode::Paths => {
+            let said = parse_rings(alloc, RingKind::Paths, text)?;
+            answer_paths(alloc, &said)
         }
     }
 }

@@ -12,6 +12,15 @@ pub mod tell;
 pub mod wanted;
 pub mod words;
 
+/// Why sound lines of what grows or shrinks have no answer.
+#[derive(Clone, Copy, Debug, PartialEq, Eq)]
+pub enum Unfit {
+    /// The shape isn't convex around the origin, counterclockwise.
+    Shape,
+    /// A corner of what is made isn't a point whose coordinates have 32 bits.
+    Range,
+}
+
 /// Why the program ends without replies.
 #[derive(Clone, Copy, Debug)]
 pub enum Fault {
@@ -24,6 +33,8 @@ pub enum Fault {
     Overlap(usize),
     /// These two lines, counted from 1 and the first above the second, say edges that cross.
     Cross(usize, usize),
+    /// What grows or shrinks has no answer, and this is why.
+    Unfit(Unfit),
     /// Memory was refused.
     Memory,
     /// Reading failed, and this is why. It may be that memory was refused.
@@ -41,6 +52,7 @@ impl Fault {
     {
         match self {
             Fault::Arguments | Fault::Line(_) | Fault::Overlap(_) | Fault::Cross(_, _) => 2,
+            Fault::Unfit(_) => 2,
             Fault::Memory | Fault::Reading(_) | Fault::Writing(_) => 1,
         }
     }

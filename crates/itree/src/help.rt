@@ -69,6 +69,19 @@ it isn't there, and --window.
   subject X Y ..
   clip X Y ..
 
+itree offset grow RULE, itree offset shrink RULE: polygons of what the inside of the subject, by RULE,
+becomes where it grows by a shape: all points that one of it and one of the shape add up to; or of
+what is left where it shrinks: the points from which all of the shape lies inside. The shape is a
+convex polygon, counterclockwise, with the origin inside, whose corners the lines of its own have,
+one line after another. The polygons have lines as those of overlay.
+  subject X Y ..
+  shape X Y ..
+
+itree offset lines: the same of paths that grow by a shape. Each line is a path, from each point to
+the next.
+  line X Y ..
+  shape X Y ..
+
 itree help, itree --help, itree -h: this text
 itree --version, itree -V: the version, as itree NUMBER.NUMBER.NUMBER
 
@@ -79,6 +92,8 @@ writing failed, and 2 where nothing is answered. At 1 and 2 standard error has o
   itree: line N: column C: ..          line N is the first that is no line of the mode: which word
   itree: overlap N                     the segment of line N overlaps another at one height
   itree: cross N M                     the edges of lines N and M cross
+  itree: shape: ..                     its corners make no such polygon as is wanted
+  itree: range: ..                     a corner of what is made is no point of such numbers
   itree: memory was refused
   itree: reading failed: ..            why, as the system says
   itree: writing failed: ..            why, as the system says

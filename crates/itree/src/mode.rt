@@ -3,7 +3,7 @@
 ghost use Rattle.std.specs.Prelude.{◌≡◌, ◌≢◌, ◌↔◌, ◌∷◌, [], codes, IfSome, IsNone, IsTrue};
 ghost use Rattle.i_tree.specs.Seg.Buckets.{HasLayout};
 ghost use Rattle.itree.specs.Grammar.{ReadsAll};
-ghost use Rattle.itree.specs.Modes.{Names, NamesMode, NamedBy, FitsItsNumbers, IsSpan, NamesRange, NamesOverlay, operation_word, rule_word, sides_of};
+ghost use Rattle.itree.specs.Modes.{Names, NamesMode, NamedBy, FitsItsNumbers, IsSpan, NamesRange, operation_word, rule_word, sides_of};
 ghost use Rattle.overlay.specs.declared.fill.rules.FillRule.{FillRule};
 ghost use Rattle.overlay.specs.declared.fill.rules.Operation.{Operation};
 ghost use Rattle.tiles.specs.Window.{CanCropTo};
@@ -58,6 +58,17 @@ pub enum Mode {
         operation: Operation,
         rule: FillRule,
     },
+    /// Rings and corners of a shape, and the polygons that what is inside of the rings by the rule becomes where it grows by the
+    /// shape.
+    Grow {
+        rule: FillRule,
+    },
+    /// The same rings and corners, and the polygons of what is left of the inside where the shape is taken along outside.
+    Shrink {
+        rule: FillRule,
+    },
+    /// Paths and corners of a shape, and the polygons that the paths become where they grow by the shape.
+    Paths,
 }
 
 impl Mode {
@@ -79,6 +90,8 @@ impl Mode {
             ["crossings"] => Some(Mode::Crossings),
             ["snap"] => Some(Mode::Snap),
             ["node"] => Some(Mode::Node),
+            ["offset", "lines"] => Some(Mode::Paths),
+            ["offset", operation, rule] => offset_by(operation, rule),
             ["overlay", operation, rule] => overlay_by(operation, rule),
             [
                 "overlay",
@@ -110,12 +123,25 @@ fn segments(min: &str, max: &str) -> Option<Mode>
 
 // The mode of an overlay by the operation and the rule that the words name.
 fn overlay_by(operation: &str, rule: &str) -> Option<Mode>
-    ensures named { IfSome result (NamesOverlay operation.now rule.now) }
-    ensures unnamed { IsNone result → (mode : Mode) → ¬ (NamesOverlay operation.now rule.now mode) }
+    ensures named { IfSome result (λ mode. NamedBy mode (codes "overlay" ∷ operation.now ∷ rule.now ∷ [])) }
+    ensures unnamed { IsNone result → (mode : Mode) → ¬ (NamedBy mode (codes "overlay" ∷ operation.now ∷ rule.now ∷ [])) }
 {
     let operation = operation_named(operation)?;
     let rule = rule_named(rule)?;
     Some(Mode::Overlay { operation, rule })
+}
+
+// The mode of what grows or shrinks, as the operation says, by the rule that the other word names.
+fn offset_by(operation: &str, rule: &str) -> Option<Mode>
+    ensures named { IfSome result (λ mode. NamedBy mode (codes "offset" ∷ operation.now ∷ rule.now ∷ [])) }
+    ensures unnamed { IsNone result → (mode : Mode) → ¬ (NamedBy mode (codes "offset" ∷ operation.now ∷ rule.now ∷ [])) }
+{
+    let rule = rule_named(rule)?;
+    match operation {
+        "grow" => Some(Mode::Grow { rule }),
+        "shrink" => Some(Mode::Shrink { rule }),
+        _ => None,
+    }
 }
 
 // The mode of an overlay by the operation and the rule that the words name, within the window that the others are read as.

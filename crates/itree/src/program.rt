@@ -5,7 +5,8 @@ ghost use Rattle.std.specs.Borrow.{Bor};
 ghost use Rattle.std.specs.Io.KnownBytes.{Appends};
 ghost use Rattle.itree.specs.Faults.{status_of};
 ghost use Rattle.itree.specs.Modes.{Names, NamesMode, AsksForHelp, AsksForVersion, AsksForText};
-ghost use Rattle.itree.specs.Texts.{Answers, HasFirstFaulty, HasOverlapLine, HasCrossingLines, HasFault, IsFaultOf};
+ghost use Rattle.itree.specs.Texts.{Answers, HasFirstFaulty, HasOverlapLine, HasCrossingLines, HasUnfit, HasFault, IsFaultOf};
+ghost use Rattle.itree.specs.declared.fault.Unfit.{Unfit};
 ghost use Rattle.itree.specs.declared.mode.Mode.{Mode};
 
 use crate::answers::answer_text;
@@ -24,16 +25,16 @@ use std::io::{Read, Write};
 ///
 /// `words` are the arguments without the program's name, which are to be the one word of a mode: `keytree`, `keylist`,
 /// `settree`, `setlist`, `sweep`, `meetings`, `locate`, `crossings`, `snap` or `node`; `seg`, `MIN` and `MAX`, the ends of a range
-/// that has a layout; `overlay`, an operation and a fill rule, and behind these maybe `--window` and the sides of a window; or one
-/// word that asks for help, `help`, `--help` or `-h`, or for the version, `--version` or `-V`. `faults` stands for standard error,
-/// and the answer is the process's status:
+/// that has a layout; `overlay`, an operation and a fill rule, and behind these maybe `--window` and the sides of a window;
+/// `offset`, `grow` or `shrink`, and a fill rule, or `offset` and `lines`; or one word that asks for help, `help`, `--help` or
+/// `-h`, or for the version, `--version` or `-V`. `faults` stands for standard error, and the answer is the process's status:
 ///
 /// - 0 where all replies, or the text asked for, were written and flushed. An insertion that was refused has a reply too.
 /// - 1 where reading, writing, flushing or memory outside the commands failed, or memory for a sweep, for edges or for
 ///   rings; `faults` is told which, and a failed write may have taken a part of the text.
 /// - 2 where the words neither name a mode nor ask for a text, before any input is read; where a line is faulty in the mode,
-///   before any command is run; where two segments of a sweep overlap; and where two edges cross that points are located
-///   among. `faults` is told which.
+///   before any command is run; where two segments of a sweep overlap; where two edges cross that points are located among; and
+///   where the shape is none that something grows or shrinks by, or what is made doesn't fit into 32 bits. `faults` is told which.
 ///
 /// What `faults` is told is a line that `tell_fault` writes. Whether it takes the line changes nothing.
 pub fn run_itree<A: Allocator + Copy, I: Read, O: Write, X: Write>(
@@ -135,6 +136,8 @@ fn answer<A: Allocator + Copy, I: Read>(
         IfSome (I.remaining input.old) (λ text. HasOverlapLine mode text number) }
     ensures crossing { (first second : ℕ) → result ≡ Err (Fault.Cross first second) → (mode : Mode) →
         Names words.now mode → IfSome (I.remaining input.old) (λ text. HasCrossingLines mode text first second) }
+    ensures unfit { (why : Unfit) → result ≡ Err (Fault.Unfit why) → (mode : Mode) → Names words.now mode →
+        IfSome (I.remaining input.old) (λ text. HasUnfit mode text why) }
     ensures read { (number : ℕ) → result ≡ Err (Fault.Line number) →
         IfSome (I.remaining input.old) (λ given. text.new.items ≡ given) }
     ensures unread { ¬ (NamesMode words.now) → input.new ≡ input.old }

@@ -26,7 +26,7 @@ pub fn answer_rings<A: Allocator + Copy>(
     ensures err { IfErr result (λ fault. fault ≡ Fault.Memory) }
 {
     let mut polygons = Polygons::new(alloc);
-    let (subject, clip) = (rings.subject.rings(), rings.clip.rings());
+    let (subject, clip) = (rings.subject.rings(), rings.other.rings());
     match overlay(subject, clip, rule, operation, &mut polygons) {
         Ok(()) => Ok(polygon_text(alloc, &polygons)?),
         Err(OverlayFault::Refused(_)) => Err(Fault::Memory),
@@ -49,7 +49,7 @@ pub fn answer_tile<A: Allocator + Copy>(
     ensures err { IfErr result (λ fault. fault ≡ Fault.Memory) }
 {
     let mut polygons = Polygons::new(alloc);
-    let (subject, clip) = (rings.subject.rings(), rings.clip.rings());
+    let (subject, clip) = (rings.subject.rings(), rings.other.rings());
     match overlay_in(window, subject, clip, rule, operation, &mut polygons) {
         Ok(()) => Ok(polygon_text(alloc, &polygons)?),
         Err(TileFault::OutOfMemory) => Err(Fault::Memory),

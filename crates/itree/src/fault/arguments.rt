@@ -25,6 +25,7 @@ pub fn faulty_argument(words: &[&str]) -> Option<FaultyArgument>
     match *word {
         "seg" => Some(faulty_range(words)),
         "overlay" => Some(faulty_choice(words)),
+        "offset" => Some(faulty_growth(words)),
         _ => Some(faulty_mode(words)),
     }
 }
@@ -92,6 +93,23 @@ fn faulty_choice(words: &[&str]) -> FaultyArgument
         Some(word) if *word == "--window" => faulty_window(words),
         Some(_) => at(3, Wanted::NoMore),
         None => at(2, Wanted::Rule),
+    }
+}
+
+// Of arguments that begin with `offset`, and go on neither with `lines` alone nor with an operation and a rule.
+fn faulty_growth(words: &[&str]) -> FaultyArgument
+    requires { 0 < length words.now }
+    ensures { result.place < length words.now }
+{
+    let Some(operation) = words.get(1) else {
+        return at(0, Wanted::GrowthBehind);
+    };
+    match (*operation, words.get(2)) {
+        ("lines", Some(_)) => at(2, Wanted::NoMore),
+        ("grow" | "shrink", None) => at(1, Wanted::RuleBehind),
+        ("grow" | "shrink", Some(rule)) if rule_named(rule).is_none() => at(2, Wanted::Rule),
+        ("grow" | "shrink", Some(_)) if words.len() > 3 => at(3, Wanted::NoMore),
+        _ => at(1, Wanted::Growth),
     }
 }
 

@@ -5,11 +5,11 @@ ghost use Rattle.std.specs.Fmt.InlineText.{inline_text};
 ghost use Rattle.std.specs.Io.KnownBytes.{Appends};
 ghost use Rattle.std.specs.Str.{IsAscii};
 ghost use Rattle.std.specs.List.{list_all};
-ghost use Rattle.itree.specs.Faults.{TellsArguments, TellsLine, TellsReading, TellsWriting, TellsFault, is_plain as plain_byte, IsPlain, Shows};
+ghost use Rattle.itree.specs.Faults.{TellsArguments, TellsLine, TellsReading, TellsUnfit, TellsWriting, TellsFault, is_plain as plain_byte, IsPlain, Shows};
 
-use super::Fault;
 use super::arguments::faulty_argument;
 use super::words::{faulty_word, line_at};
+use super::{Fault, Unfit};
 use crate::lines::ascii_text;
 use crate::mode::Mode;
 use std::fmt::InlineText;
@@ -38,9 +38,24 @@ pub fn tell_fault<X: Write>(
         Fault::Line(number) => tell_line(number, words, text, faults),
         Fault::Overlap(number) => writeln!(faults, "itree: overlap {number}"),
         Fault::Cross(first, second) => writeln!(faults, "itree: cross {first} {second}"),
+        Fault::Unfit(why) => tell_unfit(why, faults),
         Fault::Memory => faults.write_all(b"itree: memory was refused\n"),
         Fault::Reading(error) => tell_reading(error, faults),
         Fault::Writing(error) => tell_writing(error, faults),
+    }
+}
+
+// Why sound lines of what grows or shrinks have no answer.
+fn tell_unfit<X: Write>(why: Unfit, faults: &mut X) -> io::Result<()>
+    ensures { OnOk result ((line : List ℕ) × TellsUnfit why line × Appends (X.contents faults.old) (X.contents faults.new) line) }
+{
+    match why {
+        Unfit::Shape => faults.write_all(
+            b"itree: shape: its corners go round no convex polygon, counterclockwise, with the origin inside\n",
+        ),
+        Unfit::Range => faults.write_all(
+            b"itree: range: a corner goes beyond the whole numbers from -2147483648 to 2147483647\n",
+        ),
     }
 }
 

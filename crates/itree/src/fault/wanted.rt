@@ -22,6 +22,10 @@ pub enum Wanted {
     OfCrossings,
     /// A word that begins a line of rings.
     OfRings,
+    /// A word that begins a line of rings that grow or shrink.
+    OfGrowth,
+    /// A word that begins a line of paths that grow.
+    OfPaths,
     /// A number.
     Number,
     /// One more number, behind the word.
@@ -48,6 +52,10 @@ pub enum Wanted {
     RuleBehind,
     /// An option of an overlay.
     Choice,
+    /// Whether polygons grow or shrink, or lines grow.
+    Growth,
+    /// The same, behind the word.
+    GrowthBehind,
 }
 
 impl Wanted {
@@ -64,6 +72,8 @@ impl Wanted {
             Wanted::OfLocate => "edge or point is wanted",
             Wanted::OfCrossings => "edge or range is wanted",
             Wanted::OfRings => "subject or clip is wanted",
+            Wanted::OfGrowth => "subject or shape is wanted",
+            Wanted::OfPaths => "line or shape is wanted",
             Wanted::Number => "a whole number from -2147483648 to 2147483647 is wanted",
             Wanted::OneMore => "one more number is wanted behind it",
             Wanted::NoMore => "no further word is wanted",
@@ -79,6 +89,8 @@ impl Wanted {
             Wanted::Rule => "evenodd, nonzero, positive or negative is wanted",
             Wanted::RuleBehind => "evenodd, nonzero, positive or negative is wanted behind it",
             Wanted::Choice => "--operation, --rule or --window is wanted",
+            Wanted::Growth => "grow, shrink or lines is wanted",
+            Wanted::GrowthBehind => "grow, shrink or lines is wanted behind it",
         }
     }
 }

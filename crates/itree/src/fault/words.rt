@@ -188,6 +188,8 @@ fn beginning(mode: Mode) -> Wanted
         Mode::Locate => Wanted::OfLocate,
         Mode::Crossings => Wanted::OfCrossings,
         Mode::Overlay { .. } | Mode::Tile { .. } => Wanted::OfRings,
+        Mode::Grow { .. } | Mode::Shrink { .. } => Wanted::OfGrowth,
+        Mode::Paths => Wanted::OfPaths,
     }
 }
 
@@ -202,6 +204,8 @@ fn numbers_behind(mode: Mode, name: &[u8]) -> Option<Numbers> {
         Wanted::OfEdges => of_edges(name),
         Wanted::OfLocate => of_locate(name),
         Wanted::OfCrossings => of_crossings(name),
+        Wanted::OfGrowth => of_growth(name),
+        Wanted::OfPaths => of_paths(name),
         _ => of_rings(name),
     }
 }
@@ -278,6 +282,24 @@ fn of_rings(name: &str) -> Option<Numbers> {
     match name {
         "subject" => Some(Numbers::Pairs),
         "clip" => Some(Numbers::Pairs),
+        _ => None,
+    }
+}
+
+// Those of rings that grow or shrink.
+fn of_growth(name: &str) -> Option<Numbers> {
+    match name {
+        "subject" => Some(Numbers::Pairs),
+        "shape" => Some(Numbers::Pairs),
+        _ => None,
+    }
+}
+
+// Those of paths that grow.
+fn of_paths(name: &str) -> Option<Numbers> {
+    match name {
+        "line" => Some(Numbers::Pairs),
+        "shape" => Some(Numbers::Pairs),
         _ => None,
     }
 }

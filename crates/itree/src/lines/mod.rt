@@ -28,7 +28,7 @@ pub use crossings::{CrossingsLine, crossings_text};
 pub use keys::KeyLine;
 pub use locate::LocateLine;
 pub use meetings::MetLines;
-pub use rings::{RingList, SaidRings, parse_rings, polygon_text};
+pub use rings::{RingKind, RingList, SaidRings, parse_rings, polygon_text};
 pub use segments::SegLine;
 pub use sets::SetLine;
 pub use snap::chain_text;

@@ -1,11 +1,11 @@
-//! The lines of rings, and the replies to them: polygons.
+//! The lines of rings, of a shape and of paths, and the replies to them: polygons.
 
 ghost use Rattle.std.specs.Prelude.{◌≡◌, ◌≢◌, ◌≤◌, ◌<◌, ◌⊎◌, ◌++◌, [], ◌∷◌, true, false, ℕ, List, Option, IfErr, IfOk, OnOk, flat_map, get_or, length, map, string_bytes, take};
 ghost use Rattle.std.specs.List.{between};
 ghost use Rattle.std.specs.Option.{option_to_list};
 ghost use Rattle.itree.specs.Grammar.{ReadsAll, LineSays, IsFaulty, lines_of, LinesSay, IsFirstFaulty};
 ghost use Rattle.itree.specs.Replies.{polygon_lines, ring_line};
-ghost use Rattle.itree.specs.RingLines.{RingLine, SaysRing, coordinates, Holds, HoldsSaid};
+ghost use Rattle.itree.specs.RingLines.{RingLine, SaysRing, coordinates, Holds, HoldsSaid, other_name, subject_name};
 ghost use Rattle.noding.specs.Offsets.{AreJoined, offsets};
 ghost use Rattle.plane.specs.declared.point.Point.{Point};
 ghost use Rattle.overlay.specs.Polygons.{rings_of};
@@ -24,11 +24,44 @@ pub struct RingList<A: Allocator> {
     pub ends: Vec<usize, A>,
 }
 
-/// The rings that lines say.
+/// Which rings the lines of a text say.
+#[derive(Clone, Copy, Debug, PartialEq, Eq)]
+pub enum RingKind {
+    /// Those of a subject and of a clip.
+    Overlay,
+    /// Those of a subject, and the corners of a shape.
+    Growth,
+    /// Paths, which are no rings, and the corners of a shape.
+    Paths,
+}
+
+impl RingKind {
+    // The word that begins a line of the subject.
+    fn subject(self) -> &'static str
+        ensures { result.now ≡ subject_name self }
+    {
+        match self {
+            RingKind::Overlay | RingKind::Growth => "subject",
+            RingKind::Paths => "line",
+        }
+    }
+
+    // The word that begins a line of what is taken with it.
+    fn other(self) -> &'static str
+        ensures { result.now ≡ other_name self }
+    {
+        match self {
+            RingKind::Overlay => "clip",
+            RingKind::Growth | RingKind::Paths => "shape",
+        }
+    }
+}
+
+/// The rings that lines say: those of the subject, and the others, of the clip or of a shape.
 #[derive(Drop)]
 pub struct SaidRings<A: Allocator> {
     pub subject: RingList<A>,
-    pub clip: RingList<A>,
+    pub other: RingList<A>,
 }
 
 impl<A: Allocator + Copy> RingList<A> {
@@ -77,35 +110,41 @@ impl<A: Allocator> RingList<A> {
 
 impl<A: Allocator> SaidRings<A> {
     // Takes the ring that the words of a line say, and tells whether they say one.
-    fn take_words(&mut self, words: &[&str]) -> Result<bool, AllocError>
+    fn take_words(&mut self, kind: RingKind, words: &[&str]) -> Result<bool, AllocError>
         ensures taken { IfOk result (λ is_ring. is_ring ≡ true → (ring : RingLine)
-            × SaysRing (map (λ word. word.now) words.now) ring
+            × SaysRing kind (map (λ word. word.now) words.now) ring
             × ((said : List RingLine) → HoldsSaid self.old said → HoldsSaid self.new (said ++ ring ∷ []))) }
         ensures untaken { IfOk result (λ is_ring. is_ring ≡ false → (ring : RingLine) →
-            ¬ (SaysRing (map (λ word. word.now) words.now) ring)) }
+            ¬ (SaysRing kind (map (λ word. word.now) words.now) ring)) }
     {
         let Some((name, rest)) = words.split_first() else {
             return Ok(false);
         };
-        match *name {
-            "subject" => self.subject.take_ring(rest),
-            "clip" => self.clip.take_ring(rest),
-            _ => Ok(false),
+        if *name == kind.subject() {
+            return self.subject.take_ring(rest);
         }
+        if *name == kind.other() {
+            return self.other.take_ring(rest);
+        }
+        Ok(false)
     }
 }
 
-/// The rings that the lines of a text say, as `parse_commands` reads lines.
-pub fn parse_rings<A: Allocator + Copy>(alloc: A, text: &[u8]) -> Result<SaidRings<A>, Fault>
-    ensures said { IfOk result (λ rings. (said : List RingLine) × LinesSay SaysRing (lines_of text.now) said
+/// The rings of this kind that the lines of a text say, as `parse_commands` reads lines.
+pub fn parse_rings<A: Allocator + Copy>(
+    alloc: A,
+    kind: RingKind,
+    text: &[u8],
+) -> Result<SaidRings<A>, Fault>
+    ensures said { IfOk result (λ rings. (said : List RingLine) × LinesSay (SaysRing kind) (lines_of text.now) said
         × HoldsSaid rings said) }
     ensures faulty { (number : ℕ) → result ≡ Err (Fault.Line number) →
-        IsFirstFaulty SaysRing (lines_of text.now) number }
+        IsFirstFaulty (SaysRing kind) (lines_of text.now) number }
     ensures err { IfErr result (λ fault. (fault ≡ Fault.Memory) ⊎ ((number : ℕ) × (fault ≡ Fault.Line number))) }
 {
     let mut rings = SaidRings {
         subject: RingList::new(alloc),
-        clip: RingList::new(alloc),
+        other: RingList::new(alloc),
     };
     let mut number = 0;
     let mut rest = Some(text);
@@ -113,7 +152,7 @@ pub fn parse_rings<A: Allocator + Copy>(alloc: A, text: &[u8]) -> Result<SaidRin
     'lines: while let Some(left) = rest {
         let (line, after) = cut_line(left);
         number += 1;
-        take_line(alloc, number, line, &mut rings)?;
+        take_line(alloc, kind, number, line, &mut rings)?;
         rest = after;
     }
     Ok(rings)
@@ -122,13 +161,14 @@ pub fn parse_rings<A: Allocator + Copy>(alloc: A, text: &[u8]) -> Result<SaidRin
 // Takes the ring that the line of this number says, where it has words.
 fn take_line<A: Allocator + Copy>(
     alloc: A,
+    kind: RingKind,
     number: usize,
     line: &[u8],
     rings: &mut SaidRings<A>,
 ) -> Result<(), Fault>
-    ensures said { OnOk result ((ring : Option RingLine) × LineSays SaysRing line.now ring
+    ensures said { OnOk result ((ring : Option RingLine) × LineSays (SaysRing kind) line.now ring
         × ((said : List RingLine) → HoldsSaid rings.old said → HoldsSaid rings.new (said ++ option_to_list ring))) }
-    ensures faulty { result ≡ Err (Fault.Line number) → IsFaulty SaysRing line.now }
+    ensures faulty { result ≡ Err (Fault.Line number) → IsFaulty (SaysRing kind) line.now }
     ensures err { IfErr result (λ fault. (fault ≡ Fault.Line number) ⊎ (fault ≡ Fault.Memory)) }
 {
     let text = ascii_text(line).ok_or(Fault::Line(number))?;
@@ -136,7 +176,7 @@ fn take_line<A: Allocator + Copy>(
     if words.is_empty() {
         return Ok(());
     }
-    if !rings.take_words(&words)? {
+    if !rings.take_words(kind, &words)? {
         return Err(Fault::Line(number));
     }
     Ok(())

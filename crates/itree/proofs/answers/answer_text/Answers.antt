@@ -5,16 +5,16 @@ use Rattle.i_tree.specs.Rb.Shape.{Shape, entries}
 use Rattle.i_tree.specs.Seg.Buckets.{IsLayout}
 use Rattle.i_tree.specs.Set.Pairs.{values}
 use Rattle.i_tree.specs.Set.SetList.{numbered}
-use Rattle.itree.specs.Answers.{AnswersKeys, AnswersSet, AnswersSegments, AnswersSweep, AnswersMeetings, AnswersLocate, AnswersCrossings, AnswersSnap, AnswersNode, AnswersOverlay, AnswersTile}
+use Rattle.itree.specs.Answers.{AnswersKeys, AnswersSet, AnswersSegments, AnswersSweep, AnswersMeetings, AnswersLocate, AnswersCrossings, AnswersSnap, AnswersNode, AnswersOverlay, AnswersTile, AnswersGrown, AnswersShrunk, AnswersPaths}
 use Rattle.itree.specs.Grammar.{lines_of}
 use Rattle.itree.specs.KeyLines.{KeyLine}
 use Rattle.itree.specs.SegLines.{SegLine}
-use Rattle.itree.specs.Texts.{HasOverlapLine, HasCrossingLines}
+use Rattle.itree.specs.Texts.{HasOverlapLine, HasCrossingLines, HasUnfit}
 use Rattle.itree.specs.declared.lines.crossings.CrossingsLine.{CrossingsLine}
 use Rattle.itree.specs.declared.lines.locate.LocateLine.{LocateLine}
 use Rattle.itree.specs.declared.lines.sweep.SweepLine.{SweepLine}
 use Rattle.itree.specs.declared.mode.Mode.{Mode}
-use Rattle.itree.specs.declared.mode.Mode.TheVariants.{KeyTree, KeyList, SetTree, SetList, Segments, Sweep, Meetings, Locate, Crossings, Snap, Node, Overlay, Tile}
+use Rattle.itree.specs.declared.mode.Mode.TheVariants.{KeyTree, KeyList, SetTree, SetList, Segments, Sweep, Meetings, Locate, Crossings, Snap, Node, Overlay, Tile, Grow, Shrink, Paths}
 use Rattle.plane.specs.declared.edge.Edge.{Edge}
 use Rattle.itree.specs.declared.set_key.SetKey.{SetKey}
 use Rattle.itree.specs.declared.timed_key.TimedKey.{TimedKey}
@@ -118,3 +118,36 @@ returns-in_ok-said-in-Tile-clause-answered g c =
     let rule = c.in-Tile.rule in
     answered c.answer_tile.result (λ output. string_bytes output) (Tile window operation rule) c.args.mode c.in-Tile.is c.args.text.now said says
     (IfOk-weaker c.answer_tile.result _ (λ output. AnswersTile window operation rule said (string_bytes output)) (λ output answers. answers said held) c.answer_tile.ensures.answered)
+
+pub returns-in_ok-said-in-Grow-clause-answered : goal.returns-in_ok-said-in-Grow-clause-answered
+returns-in_ok-said-in-Grow-clause-answered g c =
+    let (said, says, held) = c.in_ok-said-in-Grow.ensures.said in
+    answered c.answer_grown.result (λ output. string_bytes output) (Grow c.in-Grow.rule) c.args.mode c.in-Grow.is c.args.text.now said says
+    (IfOk-weaker c.answer_grown.result _ (λ output. AnswersGrown c.in-Grow.rule said (string_bytes output)) (λ output answers. answers said held) c.answer_grown.ensures.answered)
+
+pub returns-in_ok-said-in-Grow-clause-unfit : goal.returns-in_ok-said-in-Grow-clause-unfit
+returns-in_ok-said-in-Grow-clause-unfit g c = λ why is.
+    let (said, says, held) = c.in_ok-said-in-Grow.ensures.said in
+    subst (λ (mode : Mode). HasUnfit mode c.args.text.now why) (sym c.in-Grow.is) (said, says, c.answer_grown.ensures.unfit why is said held)
+
+pub returns-in_ok-said-in-Shrink-clause-answered : goal.returns-in_ok-said-in-Shrink-clause-answered
+returns-in_ok-said-in-Shrink-clause-answered g c =
+    let (said, says, held) = c.in_ok-said-in-Shrink.ensures.said in
+    answered c.answer_shrunk.result (λ output. string_bytes output) (Shrink c.in-Shrink.rule) c.args.mode c.in-Shrink.is c.args.text.now said says
+    (IfOk-weaker c.answer_shrunk.result _ (λ output. AnswersShrunk c.in-Shrink.rule said (string_bytes output)) (λ output answers. answers said held) c.answer_shrunk.ensures.answered)
+
+pub returns-in_ok-said-in-Shrink-clause-unfit : goal.returns-in_ok-said-in-Shrink-clause-unfit
+returns-in_ok-said-in-Shrink-clause-unfit g c = λ why is.
+    let (said, says, held) = c.in_ok-said-in-Shrink.ensures.said in
+    subst (λ (mode : Mode). HasUnfit mode c.args.text.now why) (sym c.in-Shrink.is) (said, says, c.answer_shrunk.ensures.unfit why is said held)
+
+pub returns-in_ok-said-in-Paths-clause-answered : goal.returns-in_ok-said-in-Paths-clause-answered
+returns-in_ok-said-in-Paths-clause-answered g c =
+    let (said, says, held) = c.in_ok-said-in-Paths.ensures.said in
+    answered c.answer_paths.result (λ output. string_bytes output) Paths c.args.mode c.in-Paths.is c.args.text.now said says
+    (IfOk-weaker c.answer_paths.result _ (λ output. AnswersPaths said (string_bytes output)) (λ output answers. answers said held) c.answer_paths.ensures.answered)
+
+pub returns-in_ok-said-in-Paths-clause-unfit : goal.returns-in_ok-said-in-Paths-clause-unfit
+returns-in_ok-said-in-Paths-clause-unfit g c = λ why is.
+    let (said, says, held) = c.in_ok-said-in-Paths.ensures.said in
+    subst (λ (mode : Mode). HasUnfit mode c.args.text.now why) (sym c.in-Paths.is) (said, says, c.answer_paths.ensures.unfit why is said held)

@@ -5,9 +5,9 @@ use Rattle.itree.specs.Faults.{status_of}
 use Rattle.itree.specs.Modes.{Names, AsksForText}
 use Rattle.itree.specs.Texts.{HasFault, IsFaultOf}
 use Rattle.itree.specs.declared.fault.Fault.{Fault}
-use Rattle.itree.specs.declared.fault.Fault.TheVariants.{Arguments, Line, Overlap, Cross, Memory, Reading, Writing}
+use Rattle.itree.specs.declared.fault.Fault.TheVariants.{Arguments, Line, Overlap, Cross, Unfit, Memory, Reading, Writing}
 use Rattle.itree.specs.declared.mode.Mode.{Mode}
-use Rattle.itree.proofs.Faults.{HasFault-line, HasFault-overlap, HasFault-crossing}
+use Rattle.itree.proofs.Faults.{HasFault-line, HasFault-overlap, HasFault-crossing, HasFault-unfit}
 use Rattle.itree.proofs.program.run_itree.Goals as goal
 
 pub returns-clause-faulty_line : goal.returns-clause-faulty_line
@@ -26,6 +26,8 @@ returns-clause-faulty_line g c = λ two. by_fault c.in-Err.fault refl (sym c.sta
         IfSome_then (g.I.Read.remaining c.args.input.now) (told is mode names) (λ text overlap. HasFault-overlap mode text number overlap)
     by_fault (Cross first second) is two mode names =
         IfSome_then (g.I.Read.remaining c.args.input.now) (told is mode names) (λ text crossing. HasFault-crossing mode text first second crossing)
+    by_fault (Unfit why) is two mode names =
+        IfSome_then (g.I.Read.remaining c.args.input.now) (told is mode names) (λ text unfit. HasFault-unfit mode text why unfit)
     by_fault Memory is two mode names = absurd (omega (arith, two))
     by_fault (Reading error) is two mode names = absurd (omega (arith, two))
     by_fault (Writing error) is two mode names = absurd (omega (arith, two))

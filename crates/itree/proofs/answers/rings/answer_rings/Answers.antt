@@ -1,6 +1,6 @@
 use Rattle.std.proofs.Common.{◌∙◌, List, Err, ap, subst}
 use Rattle.std.specs.List.{flat_map}
-use Rattle.itree.specs.RingLines.{subject_of, clip_of}
+use Rattle.itree.specs.RingLines.{subject_of, others_of}
 use Rattle.itree.proofs.Ringed.{HasEnds-held, edges-held, rings-appended, all-appended}
 use Rattle.overlay.specs.Contours.Rings.{ring_edges}
 use Rattle.plane.specs.declared.edge.Edge.{Edge}
@@ -14,7 +14,7 @@ unreachable-requires g c =
     let rings = c.args.rings.now in
     c.overlay.ensures.lengths.0 (c.in-Err-Lengths.is ∙ ap Err c.in-Err-Lengths.field-0-is) (
       HasEnds-held (subject_of said) c.rings-subject.result rings.subject.points.items rings.subject.ends.items c.rings-subject.ensures.points c.rings-subject.ensures.ends held.0,
-      HasEnds-held (clip_of said) c.rings-clip.result rings.clip.points.items rings.clip.ends.items c.rings-clip.ensures.points c.rings-clip.ensures.ends held.1,
+      HasEnds-held (others_of said) c.rings-clip.result rings.other.points.items rings.other.ends.items c.rings-clip.ensures.points c.rings-clip.ensures.ends held.1,
     )
 
 pub returns-in-Ok-clause-answered : goal.returns-in-Ok-clause-answered
@@ -22,7 +22,7 @@ returns-in-Ok-clause-answered g c = λ said (subject, clip).
     let rings = c.args.rings.now in
     let (polygons, is, appended) = c.in-Ok.ensures.ok in
     let of_subject = edges-held (subject_of said) c.rings-subject.result rings.subject.points.items rings.subject.ends.items c.rings-subject.ensures.points c.rings-subject.ensures.ends subject in
-    let of_clip = edges-held (clip_of said) c.rings-clip.result rings.clip.points.items rings.clip.ends.items c.rings-clip.ensures.points c.rings-clip.ensures.ends clip in
+    let of_clip = edges-held (others_of said) c.rings-clip.result rings.other.points.items rings.other.ends.items c.rings-clip.ensures.points c.rings-clip.ensures.ends clip in
     let made = c.new-polygons.ensures in
     record {
       polygons = polygons;

@@ -13,8 +13,8 @@ returns-in_err-take_line-clause-faulty g c = λ number is.
     let (fault, was, given) = err_from_is_err_and c.from_residual.result c.from_residual.ensures.1 in
     let same : c.in_err-take_line.field-0.0 ≡ Line number = cc in
     let here = named c.in_err-take_line.field-0.0 (c.lines.number + 1) number c.in_err-take_line.ensures.err same in
-    subst (IsFirstFaulty SaysRing (lines_of c.args.text.now)) here
-    (IsFirstFaulty-next SaysRing (lines_of c.args.text.now) before (lines_left c.lines.rest) c.cut_line.result.0.now (lines_left c.cut_line.result.1) c.lines.number said together (ap lines_left c.in-Some.is ∙ c.cut_line.ensures.first) counted so_far (c.in_err-take_line.ensures.faulty cc))
+    subst (IsFirstFaulty (SaysRing c.args.kind) (lines_of c.args.text.now)) here
+    (IsFirstFaulty-next (SaysRing c.args.kind) (lines_of c.args.text.now) before (lines_left c.lines.rest) c.cut_line.result.0.now (lines_left c.cut_line.result.1) c.lines.number said together (ap lines_left c.in-Some.is ∙ c.cut_line.ensures.first) counted so_far (c.in_err-take_line.ensures.faulty cc))
 
 pub lines-preserved : goal.lines-preserved
 lines-preserved g c =
@@ -28,7 +28,7 @@ lines-preserved g c =
         said ++ option_to_list ring,
         next_line (lines_of c.args.text.now) before (lines_left c.lines.rest) line (lines_left c.cut_line.result.1) together (ap lines_left c.in-Some.is ∙ c.cut_line.ensures.first),
         ap (λ n. n + 1) counted ∙ sym (length-append before (line ∷ [])),
-        LinesSay-push SaysRing before said line ring so_far says,
+        LinesSay-push (SaysRing c.args.kind) before said line ring so_far says,
         holds said held,
       );
     }

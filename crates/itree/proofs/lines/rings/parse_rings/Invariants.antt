@@ -7,7 +7,7 @@ use Rattle.itree.proofs.lines.rings.parse_rings.Given as goal
 abbrev pub invariant-lines : goal.invariant-lines
 invariant-lines g l = record {
   in_range : IfSome l.rest (λ left. l.number + length left.now ≤ length l.text);
-  so_far : (before : List (List ℕ)) × (said : List RingLine) × (lines_of l.text ≡ before ++ lines_left l.rest) × (l.number ≡ length before) × LinesSay SaysRing before said × HoldsSaid l.rings said;
+  so_far : (before : List (List ℕ)) × (said : List RingLine) × (lines_of l.text ≡ before ++ lines_left l.rest) × (l.number ≡ length before) × LinesSay (SaysRing l.kind) before said × HoldsSaid l.rings said;
 }
 
 -- how many lines are left

@@ -10,4 +10,4 @@ returns-clause-said g c =
     let ascii : IsAscii c.args.line.now = search rules in
     let same : map (λ word. word.now) c.deref.result.now ≡ words_of c.args.line.now = search rules in
     let (ring, says, holds) = c.in_ok-take_words.ensures.taken yes in
-    (Some ring, (ascii, subst (λ (words : List (List ℕ)). SaysRing words ring) same says), holds)
+    (Some ring, (ascii, subst (λ (words : List (List ℕ)). SaysRing c.args.kind words ring) same says), holds)
