@@ -43,6 +43,9 @@ int32_t proved_itree_join(const struct itree_window *windows, size_t window_coun
 int32_t proved_itree_minkowski(const struct itree_point *points, size_t point_count, const size_t *ring_ends,
                                size_t ring_count, const struct itree_point *shape, size_t corner_count, int32_t rule,
                                struct itree_polygons **polygons);
+int32_t proved_itree_minkowski_joined(const struct itree_point *points, size_t point_count, const size_t *ring_ends,
+                                      size_t ring_count, const struct itree_point *shape, size_t corner_count,
+                                      int32_t rule, int32_t join, uint32_t limit, struct itree_polygons **polygons);
 int32_t proved_itree_erode(const struct itree_point *points, size_t point_count, const size_t *ring_ends,
                            size_t ring_count, const struct itree_point *shape, size_t corner_count, int32_t rule,
                            struct itree_polygons **polygons);
@@ -317,6 +320,19 @@ int32_t itree_minkowski(const struct itree_point *points, size_t point_count, co
     limits_begin();
     return limits_end(proved_itree_minkowski(slice(points, point_count), point_count, slice(ring_ends, ring_count),
                                              ring_count, slice(shape, corner_count), corner_count, rule, polygons));
+}
+
+int32_t itree_minkowski_joined(const struct itree_point *points, size_t point_count, const size_t *ring_ends,
+                               size_t ring_count, const struct itree_point *shape, size_t corner_count, int32_t rule,
+                               int32_t join, uint32_t limit, struct itree_polygons **polygons) {
+    if (!can_be_rings(points, point_count, ring_ends, ring_count) ||
+        !can_hold(shape, corner_count, OF(struct itree_point)) || !can_hold(polygons, 1, OF(struct itree_polygons *))) {
+        return ITREE_POINTER;
+    }
+    limits_begin();
+    return limits_end(
+        proved_itree_minkowski_joined(slice(points, point_count), point_count, slice(ring_ends, ring_count), ring_count,
+                                      slice(shape, corner_count), corner_count, rule, join, limit, polygons));
 }
 
 int32_t itree_erode(const struct itree_point *points, size_t point_count, const size_t *ring_ends, size_t ring_count,

@@ -391,6 +391,31 @@ int32_t itree_minkowski(const struct itree_point *points, size_t point_count, co
                         size_t ring_count, const struct itree_point *shape, size_t corner_count, int32_t rule,
                         struct itree_polygons **polygons);
 
+/* How a corner that turns left is joined where polygons grow. One that turns right needs no join. */
+enum itree_join_style {
+    ITREE_JOIN_ROUND = 0, /* By the sides of the shape there, as itree_minkowski joins it. */
+    ITREE_JOIN_BEVEL = 1, /* By one straight line between the ends of the moved edges. */
+    ITREE_JOIN_MITRE = 2  /* By the moved edges, carried on to where they cross; or round beyond a limit. */
+};
+
+/* Writes a handle of the polygons that the inside of rings, by one of itree_fill_rule, becomes when it grows by a shape, with corners
+ * joined by one of itree_join_style. A square of 10 that grows by the diamond (2, 0), (0, 2), (-2, 0), (0, -2) becomes a square of 14
+ * with mitres, and one with slanted corners without.
+ *
+ * Rings and shape are as itree_minkowski takes them, and the curve is that of it but at corners that turn left. Bevelled, one straight
+ * line stands there in place of the sides of the shape, from the corner of the shape that moves the one edge to that which moves the
+ * next, where the origin lies left of that line. Mitred, the triangle of these two corners and of the tip comes to the curve, where the
+ * tip lies to the right of the line. The tip is where the moved edges cross, rounded to a whole point. Where it is farther out than the
+ * shape would reach if it were limit hundredths of its size, the corner stays round: 200 is twice as large. The limit is looked at for
+ * mitres alone.
+ *
+ * The polygons wind once around each point that the curve winds around, and not at all around any other, as those of itree_minkowski do.
+ * The call returns what itree_minkowski does; ITREE_CHOICE comes exactly where no pointer is faulty, and rule or join is none of their
+ * numbers, and ITREE_RANGE also where the tip of a mitre is no point of 32 bits. */
+int32_t itree_minkowski_joined(const struct itree_point *points, size_t point_count, const size_t *ring_ends,
+                               size_t ring_count, const struct itree_point *shape, size_t corner_count, int32_t rule,
+                               int32_t join, uint32_t limit, struct itree_polygons **polygons);
+
 /* Writes a handle of the polygons of what is left of the inside of rings, by one of itree_fill_rule, where a shape is taken along
  * outside: of each point from which the whole shape lies inside. So what is inside shrinks by the shape on all sides; narrow parts
  * go, and polygons come apart there.

@@ -1262,6 +1262,16 @@ template <typename Items = detail::InBraces<Position>>
     return overlay(rings, Rings(), Operation::union_, rule, grid);
 }
 
+/// How a corner that turns left is joined where polygons grow. One that turns right needs no join.
+enum class Join : std::int32_t {
+    /// By the sides of the shape there, as `minkowski` joins it: round where the shape is a circle.
+    round = ITREE_JOIN_ROUND,
+    /// By one straight line between the ends of the moved edges.
+    bevel = ITREE_JOIN_BEVEL,
+    /// By the moved edges, carried on to where they cross; or round, where that is beyond a limit.
+    mitre = ITREE_JOIN_MITRE
+};
+
 namespace detail {
 
 inline Polygons minkowski(const Rings &rings, Span<Point> shape, FillRule rule) {
@@ -1269,6 +1279,17 @@ inline Polygons minkowski(const Rings &rings, Span<Point> shape, FillRule rule) 
     throw_unless_answered(::itree_minkowski(rings.points.data(), rings.points.size(), rings.ends.data(),
                                             rings.ends.size(), shape.data(), shape.size(),
                                             static_cast<std::int32_t>(rule), &handle));
+    return Polygons(handle);
+}
+
+inline Polygons minkowski_joined(const Rings &rings, Span<Point> shape, FillRule rule, Join join, std::uint32_t limit) {
+    ::itree_polygons *handle = nullptr;
+    const auto status =
+        ::itree_minkowski_joined(rings.points.data(), rings.points.size(), rings.ends.data(), rings.ends.size(),
+                                 shape.data(), shape.size(), static_cast<std::int32_t>(rule),
+                                 static_cast<std::int32_t>(join), limit, &handle);
+    if (status == ITREE_CHOICE) throw std::invalid_argument("there is no such rule or join");
+    throw_unless_answered(status);
     return Polygons(handle);
 }
 
@@ -1307,6 +1328,29 @@ template <typename Items = detail::InBraces<Position>>
 [[nodiscard]] Polygons minkowski(const Items &rings, Span<Point> shape, FillRule rule, const Grid &grid) {
     const auto all = detail::rings_on(grid, rings);
     return detail::minkowski(all, shape, rule);
+}
+
+/// The polygons that what is inside of the rings becomes when it grows by a shape, with corners joined so, as is said at
+/// `itree_minkowski_joined` of itree.h.
+///
+///     const auto wider = itree::minkowski_joined(fields, itree::circle(500, 64).corners, itree::FillRule::non_zero,
+///                                                itree::Join::mitre);
+///
+/// A mitre goes no farther out than the shape would if it were `limit` hundredths of its size; a corner where it would is round. It
+/// takes what `minkowski` does, and throws what that does; `RangeFault` also where the tip of a mitre is no point of 32 bits.
+template <typename Items = detail::InBraces<Point>>
+[[nodiscard]] Polygons minkowski_joined(const Items &rings, Span<Point> shape, FillRule rule, Join join,
+                                        std::uint32_t limit = 500) {
+    const auto all = detail::rings_of(rings);
+    return detail::minkowski_joined(all, shape, rule, join, limit);
+}
+
+/// The same of positions, which are first rounded to the grid. The shape is one of the grid's units, and so is the answer.
+template <typename Items = detail::InBraces<Position>>
+[[nodiscard]] Polygons minkowski_joined(const Items &rings, Span<Point> shape, FillRule rule, Join join,
+                                        std::uint32_t limit, const Grid &grid) {
+    const auto all = detail::rings_on(grid, rings);
+    return detail::minkowski_joined(all, shape, rule, join, limit);
 }
 
 /// The polygons of what is left of the inside of the rings where a shape is taken along outside: of each point from which the whole

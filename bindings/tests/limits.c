@@ -112,6 +112,7 @@ static int32_t call(int which) {
     case 19: return itree_circle(1000, MANY, NULL, 0, NULL, NULL);
     case 20: status = itree_erode(points, MANY, &end, 1, around, 4, ITREE_NON_ZERO, &polygons); break;
     case 21: status = itree_grow_lines(points, MANY, &end, 1, around, 4, &polygons); break;
+    case 22: status = itree_minkowski_joined(points, MANY, &end, 1, around, 4, 1, 2, 500, &polygons); break;
     }
     const int has_handle = pairs != NULL || chains != NULL || polygons != NULL;
     itree_pairs_free(pairs);
@@ -120,7 +121,7 @@ static int32_t call(int which) {
     return has_handle == (status == ITREE_ANSWERED) ? status : -1;
 }
 
-enum { EACH = 9, CALLS = 22 };
+enum { EACH = 9, CALLS = 23 };
 
 static void checks_memory(void) {
     for (int which = 0; which < CALLS; which++) {

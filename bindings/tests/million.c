@@ -116,6 +116,10 @@ static void many_shapes(void) {
           itree_minkowski(corners, MANY, ends, SQUARES, square, 4, ITREE_NON_ZERO, &polygons) == ITREE_ANSWERED &&
               itree_polygons_points(polygons, NULL) == 4);
     itree_polygons_free(polygons);
+    check("grown with mitres", itree_minkowski_joined(corners, MANY, ends, SQUARES, square, 4, ITREE_NON_ZERO,
+                                                      ITREE_JOIN_MITRE, 500, &polygons) == ITREE_ANSWERED &&
+                                   itree_polygons_points(polygons, NULL) == 4);
+    itree_polygons_free(polygons);
     check("shrunk", itree_erode(corners, MANY, ends, SQUARES, square, 4, ITREE_NON_ZERO, &polygons) == ITREE_ANSWERED &&
                         itree_polygons_points(polygons, NULL) == MANY);
     itree_polygons_free(polygons);

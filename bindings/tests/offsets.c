@@ -27,7 +27,29 @@ static int32_t grow_lines(const struct itree_point *points, size_t point_count, 
     return itree_grow_lines(points, point_count, ends, count, shape, corners, polygons);
 }
 
-static const struct door grows = {itree_minkowski, 0, 1}, shrinks = {itree_erode, 1, 1}, widens = {grow_lines, 0, 0};
+static int32_t grow_round(const struct itree_point *points, size_t point_count, const size_t *ends, size_t count,
+                          const struct itree_point *shape, size_t corners, int32_t rule,
+                          struct itree_polygons **polygons) {
+    return itree_minkowski_joined(points, point_count, ends, count, shape, corners, rule, ITREE_JOIN_ROUND, 0,
+                                  polygons);
+}
+
+static int32_t grow_bevelled(const struct itree_point *points, size_t point_count, const size_t *ends, size_t count,
+                             const struct itree_point *shape, size_t corners, int32_t rule,
+                             struct itree_polygons **polygons) {
+    return itree_minkowski_joined(points, point_count, ends, count, shape, corners, rule, ITREE_JOIN_BEVEL, 0,
+                                  polygons);
+}
+
+static int32_t grow_mitred(const struct itree_point *points, size_t point_count, const size_t *ends, size_t count,
+                           const struct itree_point *shape, size_t corners, int32_t rule,
+                           struct itree_polygons **polygons) {
+    return itree_minkowski_joined(points, point_count, ends, count, shape, corners, rule, ITREE_JOIN_MITRE, 500,
+                                  polygons);
+}
+
+static const struct door grows = {itree_minkowski, 0, 1}, shrinks = {itree_erode, 1, 1}, widens = {grow_lines, 0, 0},
+                         rounds = {grow_round, 0, 1}, bevels = {grow_bevelled, 0, 1}, mitres = {grow_mitred, 0, 1};
 
 static int32_t by(const struct door *door, const struct itree_point *points, const size_t *ends, size_t rings,
                   const struct itree_point *shape, size_t corners, struct itree_polygons **polygons) {
@@ -219,6 +241,41 @@ static const struct row rows_of_lines[] = {
      1},
 };
 
+/* With mitres up to 5 times the shape. */
+static const struct row rows_mitred[] = {
+    {"a square by a rhomb, mitred",
+     {{0, 0}, {9, 0}, {9, 9}, {0, 9}},
+     {4},
+     1,
+     {{2, 0}, {0, 2}, {-2, 0}, {0, -2}},
+     4,
+     {{-2, -2}, {11, -2}, {11, 11}, {-2, 11}},
+     4,
+     1},
+    {"a corner that turns right needs no mitre",
+     {{0, 0}, {20, 0}, {20, 8}, {8, 8}, {8, 20}, {0, 20}},
+     {6},
+     1,
+     {{2, 0}, {0, 2}, {-2, 0}, {0, -2}},
+     4,
+     {{-2, -2}, {22, -2}, {22, 10}, {10, 10}, {10, 22}, {-2, 22}},
+     6,
+     1},
+};
+
+/* With bevels: one corner in place of two sides of an octagon. */
+static const struct row rows_bevelled[] = {
+    {"a square by an octagon, bevelled",
+     {{0, 0}, {9, 0}, {9, 9}, {0, 9}},
+     {4},
+     1,
+     {{3, 0}, {2, 2}, {0, 3}, {-2, 2}, {-3, 0}, {-2, -2}, {0, -3}, {2, -2}},
+     8,
+     {{0, -3}, {9, -3}, {12, 0}, {12, 9}, {9, 12}, {0, 12}, {-3, 9}, {-3, 0}},
+     8,
+     1},
+};
+
 static void checks_these(const struct door *door, const struct row *these, size_t count) {
     for (size_t place = 0; place < count; place++) {
         const struct row *const row = &these[place];
@@ -233,6 +290,9 @@ static void checks_these(const struct door *door, const struct row *these, size_
 static void checks_rows(void) {
     checks_these(&grows, rows, sizeof rows / sizeof *rows);
     checks_these(&widens, rows_of_lines, sizeof rows_of_lines / sizeof *rows_of_lines);
+    checks_these(&rounds, rows, sizeof rows / sizeof *rows);
+    checks_these(&mitres, rows_mitred, sizeof rows_mitred / sizeof *rows_mitred);
+    checks_these(&bevels, rows_bevelled, sizeof rows_bevelled / sizeof *rows_bevelled);
 }
 
 /* Rings, a shape, and all the rings that are left of them, in so many polygons. */
@@ -478,6 +538,9 @@ static void checks_by_chance(void) {
     check("rectangles by rectangles, as the plain model", ok);
     for (int32_t round = 0; round < 2000; round++) ok = ok && is_right(&shrinks, round % 4);
     check("rectangles less rectangles, as the plain model", ok);
+    for (int32_t round = 0; round < 1000; round++)
+        ok = ok && is_right(&mitres, round % 4) && is_right(&rounds, round % 4);
+    check("rectangles by rectangles, mitred and round, as the plain model", ok);
     for (int32_t round = 0; round < 2000; round++) ok = ok && is_right_of_lines();
     check("lines by rectangles, as the plain model", ok);
 }
@@ -552,6 +615,45 @@ static void checks_range(void) {
     const struct itree_point wanted[] = {{-1, -1}, {INT32_MAX, -1}, {INT32_MAX, 10}, {-1, 10}};
     check("what comes up to them", grow(nearly, one_ring, 1, square, 4, &polygons) == ITREE_ANSWERED);
     check("is there", is_one(polygons, 1, wanted, 4));
+    itree_polygons_free(polygons);
+}
+
+/* Which corners a limit leaves round, in hundredths of the shape; numbers that are no join's; and tips that leave 32 bits. */
+static void checks_joins(void) {
+    const struct itree_point rhomb[] = {{2, 0}, {0, 2}, {-2, 0}, {0, -2}};
+    const struct itree_point far[] = {{0, 0}, {INT32_MAX - 2, 0}, {INT32_MAX - 2, 9}, {0, 9}};
+    const struct {
+        uint32_t limit;
+        size_t points;
+    } limits[] = {{0, 8}, {100, 8}, {199, 8}, {200, 4}, {500, 4}, {UINT32_MAX, 4}};
+    struct itree_polygons *polygons = NULL;
+    for (size_t place = 0; place < sizeof limits / sizeof *limits; place++) {
+        check("a limit", itree_minkowski_joined(field, 4, one_ring, 1, rhomb, 4, ITREE_NON_ZERO, ITREE_JOIN_MITRE,
+                                                limits[place].limit, &polygons) == ITREE_ANSWERED &&
+                             itree_polygons_points(polygons, NULL) == limits[place].points);
+        itree_polygons_free(polygons);
+    }
+    const int32_t none[] = {-1, 3, INT32_MIN, INT32_MAX};
+    for (size_t place = 0; place < sizeof none / sizeof *none; place++) {
+        polygons = (void *)&polygons;
+        check("a join that is none", itree_minkowski_joined(field, 4, one_ring, 1, NULL, 0, ITREE_NON_ZERO, none[place],
+                                                            500, &polygons) == ITREE_CHOICE &&
+                                         polygons == NULL);
+    }
+    check("a mitre up to the end of 32 bits",
+          itree_minkowski_joined(far, 4, one_ring, 1, rhomb, 4, ITREE_NON_ZERO, ITREE_JOIN_MITRE, 500, &polygons) ==
+                  ITREE_ANSWERED &&
+              itree_polygons_points(polygons, NULL) == 4);
+    itree_polygons_free(polygons);
+    const struct itree_point spike[] = {{INT32_MAX - 1003, 0}, {INT32_MAX - 3, 100}, {INT32_MAX - 1003, 200}};
+    const size_t three[] = {3};
+    polygons = (void *)&polygons;
+    check("the tip of one that leaves them",
+          itree_minkowski_joined(spike, 3, three, 1, rhomb, 4, ITREE_NON_ZERO, ITREE_JOIN_MITRE, UINT32_MAX,
+                                 &polygons) == ITREE_RANGE &&
+              polygons == NULL);
+    check("and is round within a limit", itree_minkowski_joined(spike, 3, three, 1, rhomb, 4, ITREE_NON_ZERO,
+                                                                ITREE_JOIN_MITRE, 500, &polygons) == ITREE_ANSWERED);
     itree_polygons_free(polygons);
 }
 
@@ -677,14 +779,20 @@ int main(void) {
     checks_faulty_pointers(&grows);
     checks_faulty_pointers(&shrinks);
     checks_faulty_pointers(&widens);
+    checks_faulty_pointers(&mitres);
     checks_faults(&grows);
     checks_faults(&shrinks);
     checks_faults(&widens);
+    checks_faults(&mitres);
+    checks_faults(&bevels);
+    checks_joins();
     checks_range();
     checks_range_left();
     checks_circles();
     checks_refused(&grows);
     checks_refused(&shrinks);
     checks_refused(&widens);
+    checks_refused(&mitres);
+    checks_refused(&bevels);
     return told();
 }

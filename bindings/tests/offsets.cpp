@@ -48,6 +48,29 @@ void checks_grown() {
     check("positions by a shape of a grid's units", is_ring(rounded, {{-1, -1}, {3, -1}, {3, 3}, {-1, 3}}));
 }
 
+void checks_joined() {
+    using itree::Join;
+    const std::vector<itree::Point> rhomb{{2, 0}, {0, 2}, {-2, 0}, {0, -2}};
+    const auto mitred = itree::minkowski_joined(field, rhomb, FillRule::non_zero, Join::mitre);
+    check("a square by a rhomb, mitred", is_ring(mitred, {{-2, -2}, {11, -2}, {11, 11}, {-2, 11}}));
+    const auto limited = itree::minkowski_joined(field, rhomb, FillRule::non_zero, Join::mitre, 199);
+    const auto round = itree::minkowski_joined(field, rhomb, FillRule::non_zero, Join::round);
+    check("beyond the limit it is round", limited.points().size() == 8 && round.points().size() == 8);
+    const std::vector<itree::Point> octagon{{3, 0}, {2, 2}, {0, 3}, {-2, 2}, {-3, 0}, {-2, -2}, {0, -3}, {2, -2}};
+    const auto bevelled =
+        itree::minkowski_joined({{{0, 0}, {9, 0}, {9, 9}, {0, 9}}}, octagon, FillRule::non_zero, Join::bevel);
+    check("bevelled in braces",
+          is_ring(bevelled, {{0, -3}, {9, -3}, {12, 0}, {12, 9}, {9, 12}, {0, 12}, {-3, 9}, {-3, 0}}));
+    const std::vector<std::vector<itree::Position>> half{{{0, 0}, {0.5, 0}, {0.5, 0.5}, {0, 0.5}}};
+    const auto on_grid =
+        itree::minkowski_joined(half, rhomb, FillRule::non_zero, Join::mitre, 500, itree::Grid({0, 0, -2}));
+    check("positions, mitred", is_ring(on_grid, {{-2, -2}, {4, -2}, {4, 4}, {-2, 4}}));
+    check("a join that is none", thrown<std::invalid_argument>([&] {
+                                     return itree::minkowski_joined(field, {}, FillRule::non_zero,
+                                                                    static_cast<Join>(3));
+                                 }) == "there is no such rule or join");
+}
+
 void checks_shrunk() {
     const auto less = itree::erode(field, square, FillRule::non_zero);
     check("a square less a square", is_ring(less, {{1, 1}, {8, 1}, {8, 8}, {1, 8}}));
@@ -150,6 +173,7 @@ void checks_range() {
 
 int main() {
     checks_grown();
+    checks_joined();
     checks_shrunk();
     checks_lines();
     checks_circles();
@@ -164,6 +188,9 @@ int main() {
     };
     checks_faults(grow);
     checks_faults(shrink);
+    checks_faults([](const auto &rings, itree::Span<itree::Point> shape, FillRule rule) {
+        return itree::minkowski_joined(rings, shape, rule, itree::Join::mitre);
+    });
     checks_faults(widen);
     checks_rule(grow);
     checks_rule(shrink);

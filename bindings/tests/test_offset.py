@@ -142,6 +142,56 @@ class ByHand(unittest.TestCase):
         for distance in (0, -1):
             self.assertEqual(len(itree.offset([line, point, parts], distance)), 0)
 
+    def test_mitres(self):
+        square = {"type": "Polygon", "coordinates": [FIELD]}
+        for style in ("mitre", 2):
+            self.assertEqual(rings_of(itree.offset([FIELD], 1, join_style=style)), [[(-1, -1), (10, -1), (10, 10), (-1, 10)]])
+            made = itree.offset(square, 1, join_style=style)
+            self.assertEqual(len(made[0].outer), 4)
+            self.assertAlmostEqual(area_of(made), 121, 6)
+        self.assertEqual(rings_of(itree.offset([FIELD], -2, join_style="mitre")), [[(2, 2), (7, 2), (7, 7), (2, 7)]])
+        self.assertEqual(rings_of(itree.offset([FIELD], -5, join_style="mitre")), [])
+        self.assertEqual(rings_of(itree.offset([FIELD], 0, join_style="mitre")), [FIELD])
+        # The mitre of a right angle is 1.41 times as far away as the sides: beyond a limit of 1.4 it is round.
+        for limit, corners in ((1, 68), (1.4, 68), (1.42, 4), (1e9, 4)):
+            made = itree.offset([FIELD], 1000, join_style="mitre", mitre_limit=limit)
+            self.assertEqual(len(made[0].outer), corners, limit)
+        # A corner that turns right grows as it is, and where all shrinks it has the mitre.
+        bend = [(0, 0), (20, 0), (20, 8), (8, 8), (8, 20), (0, 20)]
+        less = [(2, 2), (18, 2), (18, 6), (6, 6), (6, 18), (2, 18)]
+        self.assertEqual(rings_of(itree.offset([bend], -2, join_style="mitre")), [less])
+        more = [(-2, -2), (22, -2), (22, 10), (10, 10), (10, 22), (-2, 22)]
+        self.assertEqual(rings_of(itree.offset([bend], 2, join_style="mitre")), [more])
+        ring = [FIELD, [(3, 3), (3, 6), (6, 6), (6, 3)]]
+        larger = [[(-1, -1), (10, -1), (10, 10), (-1, 10)], [(4, 4), (4, 5), (5, 5), (5, 4)]]
+        self.assertEqual(rings_of(itree.offset(ring, 1, join_style="mitre")), larger)
+
+    def test_bevels(self):
+        for style in ("bevel", 3):
+            flat = [(-3, 0), (0, -3), (9, -3), (12, 0), (12, 9), (9, 12), (0, 12), (-3, 9)]
+            self.assertEqual(rings_of(itree.offset([FIELD], 3, join_style=style)), [flat])
+            made = itree.offset({"type": "Polygon", "coordinates": [FIELD]}, 1, join_style=style)
+            self.assertEqual(len(made[0].outer), 8)
+            self.assertAlmostEqual(area_of(made), 119, 6)
+        bend = [(0, 0), (20, 0), (20, 8), (8, 8), (8, 20), (0, 20)]
+        less = [(2, 2), (18, 2), (18, 6), (8, 6), (6, 8), (6, 18), (2, 18)]
+        self.assertEqual(rings_of(itree.offset([bend], -2, join_style="bevel")), [less])
+        for style in ("round", 1):
+            self.assertEqual(len(itree.offset([FIELD], 1000, join_style=style)[0].outer), 68)
+
+    def test_joins_of_lines(self):
+        others = (
+            {"type": "LineString", "coordinates": [(0, 0), (8, 0)]},
+            {"type": "Point", "coordinates": (20.0, 0.0)},
+        )
+        for style in ("mitre", "bevel", 2, 3):
+            for shape in others:
+                for distance in (1, 0, -1):
+                    with self.assertRaisesRegex(ValueError, "lines and points have round joins alone"):
+                        itree.offset(shape, distance, join_style=style)
+                    with self.assertRaisesRegex(ValueError, "lines and points have round joins alone"):
+                        itree.offset([{"type": "Polygon", "coordinates": [FIELD]}, shape], distance, join_style=style)
+
     def test_tolerance(self):
         point = {"type": "Point", "coordinates": (0.0, 0.0)}
         for tolerance in (0.5, 0.1, 0.01, 0.001):
@@ -264,6 +314,10 @@ class Faults(unittest.TestCase):
         far = [[(0, 0), (2**31 - 1, 0), (0, 9)]]
         with self.assertRaisesRegex(OverflowError, "leaves the numbers of 32 bits"):
             itree.minkowski(far, SQUARE)
+        for style in ("mitre", "bevel"):
+            for distance in (1, -1):
+                with self.assertRaisesRegex(OverflowError, "leaves the numbers of 32 bits"):
+                    itree.offset(far, distance, join_style=style)
         # Within the triangle there is room, and right of the left wall of the notch, which goes that way, there is none.
         self.assertEqual(len(itree.offset(far, -1)), 1)
         end = 2**31 - 1
@@ -289,7 +343,11 @@ class Faults(unittest.TestCase):
             ({"tolerance": 0}, ValueError, "^the tolerance: 0.0; a finite number above 0"),
             ({"tolerance": math.nan}, ValueError, "^the tolerance: nan"),
             ({"cap_style": "flat"}, ValueError, "^the cap_style 'flat': 'round' is wanted"),
-            ({"join_style": "mitre"}, ValueError, "^the join_style 'mitre': 'round' is wanted"),
+            ({"join_style": "miter"}, ValueError, "^the join_style 'miter': 'round', 'mitre' or 'bevel' is wanted"),
+            ({"join_style": 0}, ValueError, "^the join_style 0: "),
+            ({"mitre_limit": 0.99}, ValueError, "^the mitre_limit: 0.99; a finite number from 1 on"),
+            ({"mitre_limit": math.nan}, ValueError, "^the mitre_limit: nan"),
+            ({"join_style": "mitre", "mitre_limit": math.inf}, ValueError, "^the mitre_limit: inf"),
             ({"rule": "odd"}, ValueError, "^the rule 'odd'"),
             ({"grid": 1}, TypeError, "^the grid is int"),
             ({"memory_limit": 0}, ValueError, "^memory_limit: 0"),
@@ -373,6 +431,39 @@ class BesideShapely(unittest.TestCase):
         print(
             f"\nshapely {shapely.__version__}: {valid} offsets are valid, at most {worst:.2f} of what may be between the areas"
         )
+
+    def plain_shapes(self):
+        """Polygons without narrow corners, so that each mitre is within the limit; a distance; and how many corners."""
+        for place in range(self.COUNT):
+            chance = random.Random(place)
+            middle, count = (chance.uniform(-500, 500), chance.uniform(-500, 500)), chance.randint(3, 12)
+            turns = [2 * math.pi * (it + chance.uniform(-0.2, 0.2)) / count for it in range(count)]
+            far = [chance.uniform(10, 14) for _ in turns]
+            ring = [(middle[0] + it * math.cos(at), middle[1] + it * math.sin(at)) for at, it in zip(turns, far)]
+            hole = [(middle[0] + x, middle[1] + y) for x, y in ((-1, -1), (-1, 1.5), (1, 1), (1.5, -1))]
+            holes = [hole] if place % 3 == 0 else []
+            yield place, shapely.geometry.Polygon(ring, holes), chance.uniform(0.1, 3), count + 4 * len(holes)
+
+    def test_joins(self):
+        worst = valid = 0
+        for place, shape, distance, corners in self.plain_shapes():
+            within = distance / 1e5
+            # So far along a side may the corner of the circle's polygon lie that moves it.
+            aside = math.sqrt(2 * distance * within)
+            for style, number in (("mitre", 2), ("bevel", 3)):
+                for signed in (distance, -distance):
+                    made = itree.offset(shape, signed, join_style=style, mitre_limit=20, tolerance=within)
+                    unit, made = made.grid.unit, made.to_shapely()
+                    wanted = shape.buffer(signed, join_style=number, mitre_limit=20)
+                    self.assertTrue(made.is_valid, (place, style, signed))
+                    valid += 1
+                    # So far off are the sides, along all of the border; and the ends of each bevel.
+                    allowed = (within + 2 * unit) * (wanted.length + shape.length)
+                    allowed += 2 * corners * distance * aside if style == "bevel" else 0
+                    off = abs(made.area - wanted.area)
+                    self.assertLessEqual(off, allowed, (place, style, signed))
+                    worst = max(worst, off / allowed)
+        print(f"\nshapely {shapely.__version__}: {valid} joined offsets are valid, at most {worst:.2f} of what may be off")
 
     def test_quad_segs(self):
         point = shapely.geometry.Point(3, 4)

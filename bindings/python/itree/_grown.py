@@ -4,22 +4,35 @@ from __future__ import annotations
 
 import array
 import math
-from typing import Callable, List, Sequence, Tuple
+from typing import Callable, List, NamedTuple, Sequence, Tuple
 
 from . import _answers
 from ._answers import Handle, Lists
 from ._calls import made
 from ._library import RANGE, SHAPE, library
 from ._overlay import OPERATIONS, RULES
-from ._shapes import NOTHING, HeldRings
+from ._rows import _GREATEST, _LEAST
+from ._shapes import NOTHING, HeldRings, held_rings
 
 Point = Tuple[int, int]
 
 # No circle has more corners.
 MOST_CORNERS = 8192
-_NON_ZERO, _UNION = RULES["nonzero"], OPERATIONS["union"]
+_NON_ZERO, _UNION, _DIFFERENCE = RULES["nonzero"], OPERATIONS["union"], OPERATIONS["difference"]
 NOT_CONVEX = "the corners of a convex polygon with the origin inside are wanted, counterclockwise"
 TOO_FAR = "what has grown leaves the numbers of 32 bits"
+
+
+class Join(NamedTuple):
+    """How a corner is joined that turns left where polygons grow, as the library has it."""
+
+    style: int = 0
+    # How far a mitre may go, in hundredths of the distance.
+    limit: int = 0
+
+
+ROUND, BEVEL, MITRE = 0, 1, 2
+_ROUND_JOIN = Join()
 
 
 def circle(radius: int, corners: int) -> List[Point]:
@@ -78,6 +91,14 @@ def minkowski_sum(rings: HeldRings, shape: Sequence[Point], rule: int, limit: in
     return _made_of(library.itree_minkowski, rings, shape, [rule], limit)
 
 
+def joined_sum(rings: HeldRings, shape: Sequence[Point], rule: int, join: Join, limit: int) -> Lists:
+    """The polygons that what is inside of rings becomes when it grows by a shape, with corners joined so.
+
+    Raises what `minkowski_sum` does.
+    """
+    return _made_of(library.itree_minkowski_joined, rings, shape, [rule, *join], limit)
+
+
 def eroded(rings: HeldRings, shape: Sequence[Point], rule: int, limit: int) -> Lists:
     """The polygons of what is left of the inside of rings: of the points around which all of the shape lies inside.
 
@@ -113,21 +134,45 @@ def _made_of(call: Callable[..., int], rings: HeldRings, shape: Sequence[Point],
     return _answers.lists_in(handle)
 
 
-def by_circle(rings: HeldRings, radius: int, corners: int, rule: int, limit: int) -> Lists:
+def by_circle(rings: HeldRings, radius: int, corners: int, rule: int, limit: int, join: Join = _ROUND_JOIN) -> Lists:
     """What becomes of the inside of rings: it grows by a circle, shrinks where the radius is below 0, and stays where it is 0.
 
     Raises what `minkowski_sum` does.
     """
-    if radius > 0:
+    if radius > 0 and join.style == ROUND:
         return minkowski_sum(rings, circle(radius, corners), rule, limit)
+    if radius > 0:
+        return joined_sum(rings, circle(radius, corners), rule, join, limit)
     inside = _answers.polygons_of(rings, NOTHING, rule, _UNION, limit)
     numbers = inside.numbers()
     if radius == 0 or not len(numbers):
         return inside
-    if -2 * radius >= min(max(numbers[axis::2]) - min(numbers[axis::2]) for axis in (0, 1)):
+    narrow = min(max(numbers[axis::2]) - min(numbers[axis::2]) for axis in (0, 1))
+    if join.style != BEVEL and -2 * radius >= narrow:
         # No circle of the radius has room.
         return _answers.polygons_of(NOTHING, NOTHING, rule, _UNION, limit)
-    return eroded(HeldRings(inside.given(), inside), circle(-radius, corners), _NON_ZERO, limit)
+    held, round_shape = HeldRings(inside.given(), inside), circle(-radius, corners)
+    if join.style == ROUND:
+        return eroded(held, round_shape, _NON_ZERO, limit)
+    return less_outside(held, round_shape, join, limit)
+
+
+def less_outside(inside: HeldRings, shape: Sequence[Point], join: Join, limit: int) -> Lists:
+    """The polygons of what is left of polygons where what is outside has grown by a shape, turned by half a circle, with
+    corners joined so. The outside is taken within a box around all: nothing of what lies beyond comes to the inside else.
+
+    Raises what `minkowski_sum` does.
+    """
+    points, count = inside.given[:2]
+    numbers = _answers.view_at(inside, points, 2 * count, "i")
+    low, high = ([way(numbers[axis::2]) + far for axis in (0, 1)] for way, far in ((min, -1), (max, 1)))
+    if min(low) < _LEAST or max(high) > _GREATEST:
+        raise OverflowError(TOO_FAR)
+    box = held_rings(array.array("i", [*low, high[0], low[1], *high, low[0], high[1]]), array.array("Q", [4]))
+    outside = _answers.polygons_of(box, inside, _NON_ZERO, _DIFFERENCE, limit)
+    opposite = [(-x, -y) for x, y in shape]
+    grown = joined_sum(HeldRings(outside.given(), outside), opposite, _NON_ZERO, join, limit)
+    return _answers.polygons_of(inside, HeldRings(grown.given(), grown), _NON_ZERO, _DIFFERENCE, limit)
 
 
 def united(one: Lists, other: Lists, limit: int) -> Lists:

@@ -35,6 +35,10 @@ _CALLS = {
     "itree_meetings_all": (_status, [_address, _length, _address]),
     "itree_meetings_between": (_status, [_address, _length, _address, _length, _address]),
     "itree_minkowski": (_status, [*[_address, _length] * 3, _status, _address]),
+    "itree_minkowski_joined": (
+        _status,
+        [*[_address, _length] * 3, _status, _status, ctypes.c_uint32, _address],
+    ),
     "itree_node": (_status, [_address, _length, _address]),
     "itree_overlay": (_status, [*[_address, _length] * 4, _status, _status, _address]),
     "itree_overlay_each": (_status, [*[_address] * 4, _status, _status, _address, _length, _address]),

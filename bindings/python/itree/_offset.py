@@ -7,7 +7,7 @@ import math
 import operator
 from collections.abc import Iterator as IsIterator
 from collections.abc import Mapping
-from typing import Any, Iterable, Iterator, List, Literal, Optional, Tuple
+from typing import Any, Iterable, Iterator, List, Literal, Optional, Tuple, Union
 
 from . import _gathered, _grown, _rings, _rows, _shapely, _shapes
 from ._answers import two_by_two, view_at
@@ -23,6 +23,17 @@ from ._rings import Rings
 from ._shapes import HeldRings, Shapes, held_rings
 
 Style = Literal["round"]
+JoinStyle = Union[Literal["round", "mitre", "bevel"], int]
+# By name, and by the number that shapely has for it.
+_JOINS = {
+    "round": _grown.ROUND,
+    1: _grown.ROUND,
+    "mitre": _grown.MITRE,
+    2: _grown.MITRE,
+    "bevel": _grown.BEVEL,
+    3: _grown.BEVEL,
+}
+_MOST_HUNDREDTHS = 2**32 - 1
 _LINES, _POINTS = ("LineString", "LinearRing", "MultiLineString"), ("Point", "MultiPoint")
 
 
@@ -31,7 +42,8 @@ def offset(
     distance: float,
     quad_segs: int = 16,
     cap_style: Style = "round",
-    join_style: Style = "round",
+    join_style: JoinStyle = "round",
+    mitre_limit: float = 5.0,
     *,
     tolerance: Optional[float] = None,
     rule: Rule = "nonzero",
@@ -47,7 +59,13 @@ def offset(
     distance: how far they grow, in the units of the coordinates; below 0 they
     shrink, and lines and points are gone.
     quad_segs: by how many sides a quarter of a circle is replaced, as shapely has it.
-    cap_style, join_style: "round" alone: there are no others.
+    cap_style: "round" alone: there is no other.
+    join_style: how corners are joined that the border turns around: "round",
+    "mitre" by the moved sides, carried on to where they cross, or "bevel" by one
+    straight line; or 1, 2, 3 in their order, as shapely numbers them. Lines and
+    points have round joins alone.
+    mitre_limit: how many times the distance a mitre may be away from its corner,
+    to two digits; where it were farther, the corner is round.
     tolerance: how much nearer than the distance a side of the circle may come, in
     the units of the coordinates; it takes the place of quad_segs. None: there are
     quad_segs, and by 16 of them a side comes 0.12 % of the distance nearer.
@@ -65,30 +83,38 @@ def offset(
     >>> len(offset({"type": "LineString", "coordinates": [(0, 0), (5, 0), (5, 5)]}, 1))
     1
 
+    >>> [(round(x, 6), round(y, 6)) for x, y in offset(square, 1, join_style="mitre")[0].outer]
+    [(-1.0, -1.0), (5.0, -1.0), (5.0, 5.0), (-1.0, 5.0)]
+
     The circle is a polygon whose corners lie on it, rounded inwards to the grid.
     The answer is the Minkowski sum of the shapes and that polygon, exact but for
     what `overlay` says that it rounds: so nothing grows further than the distance,
     nor less far than the distance less what the sides leave. Where shapes shrink,
-    those points are left around which all of the polygon lies inside.
+    those points are left around which all of the polygon lies inside. With mitres
+    or bevels sides move as far, by the corner of that polygon which lies furthest
+    out; where shapes shrink, what is outside of them grows so.
 
     Rings of whole numbers, without a grid, stay whole: the distance is to be
     whole then, and so are the circle's corners. A distance under half a unit of
     the grid is 0.
 
     Raises what `overlay` does; ValueError where the distance or the tolerance is
-    no finite number, the tolerance isn't above 0, quad_segs is below 1, or a
-    style is another; OverflowError where what has grown leaves the grid.
+    no finite number, the tolerance isn't above 0, quad_segs is below 1, a style
+    is another, mitre_limit is below 1, or lines or points are to have another
+    join than round; OverflowError where what has grown leaves the grid.
     """
     far, corners = finite(distance), corners_by(distance, quad_segs, tolerance)
-    _check_styles(cap_style, join_style)
+    join = _join_of(cap_style, join_style, mitre_limit)
     number = number_in(RULES, rule, "rule")
     check_grid(grid)
     limit = limit_of(memory_limit)
     given = _Given(shapes, grid is not None)
+    if join.style != _grown.ROUND and given.has_others():
+        raise ValueError(f"the join_style {join_style!r}: lines and points have round joins alone")
     if grid is None:
-        grid = given.grid_for(far)
+        grid = given.grid_for(_reach(far, join))
     radius = _radius(far, grid)
-    lists = _grown.by_circle(given.areas.held(grid), radius if far > 0 else -radius, corners, number, limit)
+    lists = _grown.by_circle(given.areas.held(grid), radius if far > 0 else -radius, corners, number, limit, join)
     if radius and far > 0:
         lines = given.lines(grid)
         if lines.given[3]:
@@ -153,10 +179,22 @@ def corners_by(distance: Any, quad_segs: int, tolerance: Optional[float]) -> int
     return _grown.corners_for(abs(float(distance)) or 1.0, segments, within)
 
 
-def _check_styles(cap_style: str, join_style: str) -> None:
-    for called, style in (("cap_style", cap_style), ("join_style", join_style)):
-        if style != "round":
-            raise ValueError(f"the {called} {style!r}: 'round' is wanted, there is no other")
+def _join_of(cap_style: str, join_style: Any, mitre_limit: Any) -> _grown.Join:
+    """How corners are joined. Raises ValueError where a style is none, or the limit is below 1 or no finite number."""
+    if cap_style != "round":
+        raise ValueError(f"the cap_style {cap_style!r}: 'round' is wanted, there is no other")
+    style = _JOINS.get(join_style)
+    if style is None:
+        raise ValueError(f"the join_style {join_style!r}: 'round', 'mitre' or 'bevel' is wanted, or 1, 2 or 3")
+    most = float(mitre_limit)
+    if not (most >= 1 and math.isfinite(most)):
+        raise ValueError(f"the mitre_limit: {most}; a finite number from 1 on is wanted")
+    return _grown.Join(style, min(round(100 * most), _MOST_HUNDREDTHS) if style == _grown.MITRE else 0)
+
+
+def _reach(far: float, join: _grown.Join) -> float:
+    """How far away from shapes lies what becomes of them by a distance, at most, and what is made on the way to it."""
+    return far * max(2, join.limit / 100) if join.style != _grown.ROUND else far
 
 
 def _radius(far: float, grid: Optional[Grid]) -> int:
@@ -185,6 +223,10 @@ class _Given:
         self.crs = self.areas.crs if series is None else series.crs
         self._lines = [LineLayer(it, "shapes") for it in (parts.lines, parts.told_lines) if it]
         self._points = [PointLayer(it, "shapes") for it in (parts.points, parts.told_points) if it]
+
+    def has_others(self) -> bool:
+        """Whether there are lines or points."""
+        return bool(self._lines or self._points)
 
     def grid_for(self, far: float) -> Optional[Grid]:
         """The finest grid on which all fits, and what becomes of it; None of rings of whole numbers."""

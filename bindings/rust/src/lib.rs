@@ -33,7 +33,7 @@ pub use layers::{
     Border, Groups, Layer, LayerBuf, LayerFault, Lines, Overlays, OverlaysIter, Pieces, Side,
 };
 pub use limits::{limited_to, memory_peak, stopped_by};
-pub use offsets::{circle, erode, grow_lines, minkowski, Circle, CircleFault, MinkowskiFault};
+pub use offsets::{circle, erode, grow_lines, minkowski, minkowski_joined, Circle, CircleFault, Join, MinkowskiFault};
 pub use tiles::{crop, join, overlay_in, overlay_threads, whole_window, Tile, TileFault, Window};
 pub use wkb::{read_wkb, wkb_corners, wkb_srid, Shapes, WkbFault, WkbFaultKind};
 
@@ -832,6 +832,19 @@ mod calls {
             shape: *const Point,
             corner_count: usize,
             rule: i32,
+            polygons: *mut *mut Handle,
+        ) -> i32;
+
+        pub fn itree_minkowski_joined(
+            points: *const Point,
+            point_count: usize,
+            ring_ends: *const usize,
+            ring_count: usize,
+            shape: *const Point,
+            corner_count: usize,
+            rule: i32,
+            join: i32,
+            limit: u32,
             polygons: *mut *mut Handle,
         ) -> i32;
 

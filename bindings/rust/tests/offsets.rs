@@ -1,7 +1,8 @@
 //! Polygons that grow and shrink, and lines that grow: by hand, at faults, and with each request for memory refused in turn.
 
 use itree::{
-    circle, erode, grow_lines, minkowski, CircleFault, FillRule, Lines, MinkowskiFault, Point, Polygons, Rings,
+    circle, erode, grow_lines, minkowski, minkowski_joined, CircleFault, FillRule, Join, Lines, MinkowskiFault, Point,
+    Polygons, Rings,
 };
 use refuse::granted;
 
@@ -56,6 +57,51 @@ fn grows_by_a_shape() {
         assert_eq!(rings.len(), 1 + left, "a hole of {side}");
     }
     assert!(rings_of(&[], &[], &SQUARE).is_empty());
+}
+
+/// With mitres up to 5 times the shape, as such a call takes rings.
+fn mitred(rings: Rings<'_>, shape: &[Point], rule: FillRule) -> Result<Polygons, MinkowskiFault> {
+    minkowski_joined(rings, shape, rule, Join::Mitre(500))
+}
+
+/// With bevels.
+fn bevelled(rings: Rings<'_>, shape: &[Point], rule: FillRule) -> Result<Polygons, MinkowskiFault> {
+    minkowski_joined(rings, shape, rule, Join::Bevel)
+}
+
+#[test]
+fn joins_corners() {
+    let field = rectangle(0, 0, 9, 9);
+    let rhomb = [(2, 0), (0, 2), (-2, 0), (0, -2)].map(Point::from);
+    assert_eq!(rings_by(mitred, &field, &[4], &rhomb), [rectangle(-2, -2, 11, 11)]);
+    let octagon = [(3, 0), (2, 2), (0, 3), (-2, 2), (-3, 0), (-2, -2), (0, -3), (2, -2)].map(Point::from);
+    let flat = [(-3, 0), (0, -3), (9, -3), (12, 0), (12, 9), (9, 12), (0, 12), (-3, 9)].map(Point::from);
+    assert_eq!(rings_by(bevelled, &field, &[4], &octagon), [flat]);
+    for (join, corners) in [
+        (Join::Round, 8),
+        (Join::Bevel, 8),
+        (Join::Mitre(0), 8),
+        (Join::Mitre(199), 8),
+        (Join::Mitre(200), 4),
+        (Join::Mitre(u32::MAX), 4),
+    ] {
+        let rings = Rings {
+            points: &field,
+            ends: &[4],
+        };
+        let made = minkowski_joined(rings, &rhomb, FillRule::NonZero, join).unwrap();
+        assert_eq!(made.points().len(), corners, "{join:?}");
+    }
+    let spike = [(i32::MAX - 1003, 0), (i32::MAX - 3, 100), (i32::MAX - 1003, 200)].map(Point::from);
+    let call = |join| {
+        let rings = Rings {
+            points: &spike,
+            ends: &[3],
+        };
+        minkowski_joined(rings, &rhomb, FillRule::NonZero, join).map(|polygons| polygons.len())
+    };
+    assert_eq!(call(Join::Mitre(u32::MAX)), Err(MinkowskiFault::Range));
+    assert_eq!(call(Join::Mitre(500)), Ok(1));
 }
 
 #[test]
@@ -168,6 +214,8 @@ fn tells_faults(by: By) {
 fn tells_faulty_shapes_and_rings() {
     tells_faults(minkowski);
     tells_faults(erode);
+    tells_faults(mitred);
+    tells_faults(bevelled);
     tells_faults(lines_by);
     let call = |points, ends, shape| {
         let made = minkowski(Rings { points, ends }, shape, FillRule::EvenOdd);
@@ -234,7 +282,7 @@ fn is_refused_growth_where_memory_is() {
         points: &points,
         ends: &ends,
     };
-    for by in [minkowski as By, erode] {
+    for by in [minkowski as By, erode, mitred, bevelled] {
         let call = || by(rings, &SQUARE, FillRule::NonZero);
         let mut requests = 0;
         while let Err(fault) = granted(requests, call) {

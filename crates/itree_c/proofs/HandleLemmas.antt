@@ -8,7 +8,8 @@
 --   an export with the clause `made`, as `itree_meetings_all`, and a proof over the row of the kind: `makes` (HandleMade)
 --   where the private call takes one list, `makes_by` (HandleMadeBy) where it takes two structs of points and of where
 --   these stop, and two numbers, `makes_beside` (HandleMadeBeside) where it takes one such struct, a list of points and a
---   number. Another export has a walk of its own, as `itree_meetings_between`: behind the private call
+--   number, `makes_three` (HandleMadeBesideThree) where it takes three numbers beside these, and `makes_of` (HandleMadeOf)
+--   where it takes none. Another export has a walk of its own, as `itree_meetings_between`: behind the private call
 --   `parts_out` takes the answer apart, and at the end `made_in` makes the clause of what is owned;
 --   `reads` (HandleReads) for each list that is read of it, and `frees` (HandleFrees) for what frees it. `held_out` opens
 --   what the handle owns, and `held_in` closes it.

@@ -4,6 +4,7 @@ pub mod HandleFrees
 pub mod HandleLemmas
 pub mod HandleMade
 pub mod HandleMadeBeside
+pub mod HandleMadeBesideThree
 pub mod HandleMadeBy
 pub mod HandleMadeOf
 pub mod HandleReads

@@ -15,12 +15,12 @@ pub use base.Logic.{SProp, emp, ent, ex, fst∗, id⊢, never, sep}
 pub use contract.BorrowLft.{◌⊑◌}
 pub use contract.Monad.{fact, fact_i}
 pub use contract.Running.{tables}
-pub use denote.Builtin.{SliceRefOf, i32, i64, u8, unit, usize}
+pub use denote.Builtin.{SliceRefOf, i32, i64, u32, u8, unit, usize}
 pub use denote.Exit.{no, yes}
 pub use denote.Laws.{Is, shows}
 pub use denote.Memory.{cell_at, lone}
 pub use denote.Param.{bounded, layout}
-pub use denote.Plain.{uint_Makes}
+pub use denote.Plain.{uint_Lawful, uint_Makes}
 pub use denote.RattleType.{RattleType, Valss, owns}
 pub use denote.RawPtr.{Ptr, RawPtr, block_ptr, in_a_block, null_ptr, ptr_val, rawptr_Lawful}
 pub use denote.Ref.{MutRef}

@@ -1,16 +1,19 @@
--- A fill rule, an operation, a form, what becomes of a border and which side is kept, as C names them: by numbers.
-use Rattle.std.specs.Prelude.{◌≡◌, ◌≢◌, ℤ, Option, Some, None}
+-- A fill rule, an operation, a form, what becomes of a border, which side is kept and how corners are joined, as C names them: by
+-- numbers.
+use Rattle.std.specs.Prelude.{◌≡◌, ◌≢◌, ⊤, ℕ, ℤ, Option, Some, None}
 use Rattle.layers.specs.declared.points.Border.{Border}
 use Rattle.layers.specs.declared.points.Border.TheVariants.{Closed, Open, HalfOpen}
 use Rattle.layers.specs.declared.lines.Keep.{Keep}
 use Rattle.layers.specs.declared.lines.Keep.TheVariants.{Inside, Outside}
+use Rattle.offset.specs.declared.joins.Join.{Join}
+use Rattle.offset.specs.declared.joins.Join.TheVariants.{Round, Bevel, Mitre}
 use Rattle.overlay.specs.declared.fill.rules.FillRule.{FillRule}
 use Rattle.overlay.specs.declared.fill.rules.FillRule.TheVariants.{EvenOdd, NonZero, Positive, Negative}
 use Rattle.overlay.specs.declared.fill.rules.Operation.{Operation}
 use Rattle.overlay.specs.declared.fill.rules.Operation.TheVariants.{Union, Intersection, Difference, Xor}
 use Rattle.wkb.specs.declared.writing.Form.{Form}
 use Rattle.wkb.specs.declared.writing.Form.TheVariants.{MultiPolygon, EachPolygon}
-use Rattle.itree_c.specs.declared.choices.TheConstants.{EVEN_ODD, NON_ZERO, POSITIVE, NEGATIVE, UNION, INTERSECTION, DIFFERENCE, XOR, MULTIPOLYGON, EACH_POLYGON, CLOSED, OPEN, HALF_OPEN, INSIDE, OUTSIDE}
+use Rattle.itree_c.specs.declared.choices.TheConstants.{EVEN_ODD, NON_ZERO, POSITIVE, NEGATIVE, UNION, INTERSECTION, DIFFERENCE, XOR, MULTIPOLYGON, EACH_POLYGON, CLOSED, OPEN, HALF_OPEN, INSIDE, OUTSIDE, ROUND, BEVEL, MITRE}
 
 -- the number of each rule
 abbrev pub number_of_rule : FillRule → ℤ
@@ -89,3 +92,29 @@ AreRuleAndBorder rule border =
 abbrev pub AreRuleAndKeep : ℤ → ℤ → Type 0
 AreRuleAndKeep rule keep =
     ((named : FillRule) × (rule ≡ number_of_rule named)) × ((chosen : Keep) × (keep ≡ number_of_keep chosen))
+
+-- the number of each way to join corners
+abbrev pub number_of_join : Join → ℤ
+number_of_join Round = ROUND
+number_of_join Bevel = BEVEL
+number_of_join (Mitre limit) = MITRE
+
+-- this is the limit of a mitre; the other ways have none
+abbrev pub HasLimit : ℕ → Join → Type 0
+HasLimit limit Round = ⊤
+HasLimit limit Bevel = ⊤
+HasLimit limit (Mitre hundredths) = hundredths ≡ limit
+
+-- the number names this way, and where it is a mitre, this is the limit
+abbrev pub NamesJoin : ℤ → ℕ → Join → Type 0
+NamesJoin number limit join = (number ≡ number_of_join join) × HasLimit limit join
+
+-- it is the way that is named, or none has the number
+abbrev pub IsJoin : ℤ → ℕ → Option Join → Type 0
+IsJoin number limit (Some join) = NamesJoin number limit join
+IsJoin number limit None = (join : Join) → number ≢ number_of_join join
+
+-- a rule has the one number, and a way to join corners the other
+abbrev pub AreRuleAndJoin : ℤ → ℤ → Type 0
+AreRuleAndJoin rule join =
+    ((named : FillRule) × (rule ≡ number_of_rule named)) × ((chosen : Join) × (join ≡ number_of_join chosen))

@@ -6,13 +6,15 @@ use Rattle.overlay.specs.declared.fill.rules.FillRule.{FillRule}
 use Rattle.overlay.specs.declared.fill.rules.Operation.TheVariants.{Union}
 use Rattle.plane.specs.declared.edge.Edge.{Edge}
 use Rattle.plane.specs.declared.point.Point.{Point}
+use Rattle.offset.specs.Joins.{IsJoined, joined_edges}
 use Rattle.offset.specs.Lines.{AreGrownLines, raw_of_paths}
 use Rattle.offset.specs.Minkowski.{IsGrown, IsShrunk}
 use Rattle.offset.specs.Raw.{IsIn32Bits, IsPointIn32Bits, raw_edges, raw_inside}
 use Rattle.offset.specs.Shape.{IsConvexAroundOrigin, opposite_shape}
 use Rattle.offset.specs.declared.fault.MinkowskiFault.{MinkowskiFault}
 use Rattle.offset.specs.declared.fault.MinkowskiFault.TheVariants.{Lengths, Shape, Range, OutOfMemory}
-use Rattle.itree_c.specs.Choices.{number_of_rule, IsNumberOfRule}
+use Rattle.offset.specs.declared.joins.Join.{Join}
+use Rattle.itree_c.specs.Choices.{number_of_rule, AreRuleAndJoin, IsNumberOfRule, NamesJoin}
 use Rattle.itree_c.specs.Layers.{AreHeld}
 use Rattle.itree_c.specs.Overlay.{edges_of}
 use Rattle.itree_c.specs.declared.polygon_lists.PolygonLists.{PolygonLists}
@@ -70,6 +72,38 @@ abbrev pub AnswersGrown : List Point → List ℕ → List Point → ℤ → ℤ
 AnswersGrown points ends shape rule status made =
     AnswersByRule (λ named held. AreAllGrown named (edges_of points ends) shape held) (λ named. LeavesRange named (edges_of points ends) shape)
     points ends shape rule status made
+
+-- ---- polygons that grow, with corners joined
+
+-- the polygons are what the inside of the edges becomes when it grows by the shape, with corners joined so
+abbrev pub AreAllJoined : Join → FillRule → List Edge → List Point → PolygonLists → Type 0
+AreAllJoined join rule edges shape held = (grown : List (List (List Point))) × IsJoined join rule edges shape grown × AreHeld grown held
+
+-- a corner of the curve with such joins, or the tip of a mitre, is no point of 32 bits
+abbrev pub LeavesRangeJoined : Join → FillRule → List Edge → List Point → Type 0
+LeavesRangeJoined join rule edges shape =
+    (rings : List (List Point)) × IsBoundary rule Union (real_edges edges) [] rings × (¬ (All IsIn32Bits (joined_edges join shape rings)))
+
+-- at ANSWERED there are all of these, by the rule of the number and with the join of the other and of the limit; at each other
+-- status there are none, and at RANGE a corner is out of it
+abbrev pub HoldsGrownJoined : List Edge → List Point → ℤ → ℤ → ℕ → ℤ → Option PolygonLists → Type 0
+HoldsGrownJoined edges shape rule join limit status (Some held) =
+    (status ≡ ANSWERED)
+    × (named : FillRule) × (rule ≡ number_of_rule named) × (chosen : Join) × NamesJoin join limit chosen
+    × IsConvexAroundOrigin shape × AreAllJoined chosen named edges shape held
+HoldsGrownJoined edges shape rule join limit status None =
+    (status ≡ REFUSED) ⊎ (status ≡ LENGTHS) ⊎ (status ≡ CHOICE) ⊎ (status ≡ SHAPE)
+    ⊎ ((status ≡ RANGE)
+    × (named : FillRule) × (rule ≡ number_of_rule named) × (chosen : Join) × NamesJoin join limit chosen × LeavesRangeJoined chosen named edges shape)
+
+-- a call holds what its status says; that is CHOICE exactly where a number is none, LENGTHS exactly where both are some, and a ring
+-- stops before it begins or behind the points, and SHAPE exactly where all that is well, and the shape isn't one
+abbrev pub AnswersGrownJoined : List Point → List ℕ → List Point → ℤ → ℤ → ℕ → ℤ → Option PolygonLists → Type 0
+AnswersGrownJoined points ends shape rule join limit status made =
+    HoldsGrownJoined (edges_of points ends) shape rule join limit status made
+    × ((status ≡ CHOICE) ↔ ¬ (AreRuleAndJoin rule join))
+    × ((status ≡ LENGTHS) ↔ (AreRuleAndJoin rule join × ¬ (AreEnds 0 ends (length points))))
+    × ((status ≡ SHAPE) ↔ (AreRuleAndJoin rule join × AreEnds 0 ends (length points) × ¬ (IsConvexAroundOrigin shape)))
 
 -- ---- polygons that shrink
 

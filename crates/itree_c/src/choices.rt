@@ -1,9 +1,10 @@
-//! The numbers by which C names a fill rule, an operation, a form of well-known binary, what becomes of a border, and which side of
-//! polygons is kept.
+//! The numbers by which C names a fill rule, an operation, a form of well-known binary, what becomes of a border, which side of
+//! polygons is kept, and how corners are joined.
 
-ghost use Rattle.itree_c.specs.Choices.{IsBorder, IsForm, IsKeep, IsOperation, IsRule};
+ghost use Rattle.itree_c.specs.Choices.{IsBorder, IsForm, IsJoin, IsKeep, IsOperation, IsRule};
 
 use layers::{Border, Keep};
+use offset::Join;
 use overlay::{FillRule, Operation};
 use wkb::writing::Form;
 
@@ -52,12 +53,23 @@ pub const INSIDE: i32 = 0;
 /// What lies outside is kept.
 pub const OUTSIDE: i32 = 1;
 
+/// A corner is joined by the sides of the shape.
+pub const ROUND: i32 = 0;
+
+/// A corner is joined by one straight line.
+pub const BEVEL: i32 = 1;
+
+/// A corner is joined by the moved edges, carried on to where they cross.
+pub const MITRE: i32 = 2;
+
 // `itree.h` has these numbers.
 const _: () = prove!(EVEN_ODD == 0 && NON_ZERO == 1 && POSITIVE == 2 && NEGATIVE == 3);
 
 const _: () = prove!(MULTIPOLYGON == 0 && EACH_POLYGON == 1);
 
 const _: () = prove!(CLOSED == 0 && OPEN == 1 && HALF_OPEN == 2 && INSIDE == 0 && OUTSIDE == 1);
+
+const _: () = prove!(ROUND == 0 && BEVEL == 1 && MITRE == 2);
 
 const _: () = prove!(UNION == 0 && INTERSECTION == 1 && DIFFERENCE == 2 && XOR == 3);
 
@@ -117,6 +129,18 @@ pub(crate) fn keep_of(number: i32) -> Option<Keep>
     match number {
         INSIDE => Some(Keep::Inside),
         OUTSIDE => Some(Keep::Outside),
+        _ => None,
+    }
+}
+
+// How corners are joined, by its number and for mitres the limit, or none.
+pub(crate) fn join_of(number: i32, limit: u32) -> Option<Join>
+    ensures { IsJoin number limit result }
+{
+    match number {
+        ROUND => Some(Join::Round),
+        BEVEL => Some(Join::Bevel),
+        MITRE => Some(Join::Mitre(limit)),
         _ => None,
     }
 }

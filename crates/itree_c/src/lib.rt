@@ -13,6 +13,7 @@ pub mod circles;
 pub mod cropped;
 pub mod grids;
 pub mod grown;
+pub mod grown_joined;
 pub mod grown_lines;
 pub mod handle;
 pub mod heights;
