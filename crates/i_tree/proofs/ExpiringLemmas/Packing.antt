@@ -1,19 +1,13 @@
 -- A pass over pairs that moves the live ones to the front: each pair is written there, and counts where it is live.
-use Rattle.std.proofs.Common.{◌≡◌, ℕ, ◌+◌, ◌<◌, ◌≤◌, Bool, true, false, List, length, set, take, get_or, get_or-set_same, refl, sym, ap, ◌∙◌, subst, arith}
-use Rattle.std.specs.Prelude.{All}
+use Rattle.std.proofs.Common.{◌≡◌, ℕ, ◌+◌, ◌<◌, Bool, true, false, List, length, set, take, get_or, get_or-set_same, refl, sym, ap, ◌∙◌, subst, arith}
 use Rattle.std.specs.Cmp.{IsTotalOrder}
 use Rattle.std.specs.Int.{from_bool}
 use Rattle.std.specs.Ordering.{ord_min}
 use Rattle.std.specs.declared.cmp.Ordering.{Ordering}
 use Rattle.std.proofs.lemmas.List.{drop-set-lt, take-set, length-set}
 use Rattle.std.proofs.lemmas.List.Filters.{FiltersInPlace, FiltersInPlace-more_no, FiltersInPlace-more_set}
-use Rattle.i_tree.proofs.RootLemmas.Lists.{filter_all}
 use Rattle.i_tree.proofs.ExpiringLemmas.Times.{NoneExpiresBefore-more}
 use Rattle.i_tree.specs.Expiring.Live.{NoneExpiresBefore}
-
--- the pass begins behind the first ones, where all of these are live
-pub packed-begun : {X : Type 0} (p : X → Bool) (xs : List X) (k : ℕ) → k ≤ length xs → All (λ x. p x ≡ true) (take k xs) → FiltersInPlace p xs xs k k
-packed-begun p xs k within live = record { front = sym (filter_all p (take k xs) live); rest = refl; behind = omega arith; within = within; long = refl }
 
 module _ {X : Type 0} {p : X → Bool} {xs ys : List X} {k i : ℕ} (x : X) (packed : FiltersInPlace p xs ys k i) (inside : i < length ys) (is : x ≡ get_or ys i x) where
   pub packed-more : (b : Bool) (count : ℕ) → p x ≡ b → count ≡ k + from_bool b → FiltersInPlace p xs (set ys k x) count (i + 1)

@@ -1,7 +1,7 @@
 //! Which keys are live at a time.
 
-ghost use Rattle.std.specs.Prelude.{◌≡◌, ◌≤◌, Bool, length, take, vec_capacity};
-ghost use Rattle.i_tree.specs.Expiring.Live.{AllLive, live_pairs, NoneExpiresBefore};
+ghost use Rattle.std.specs.Prelude.{◌≡◌, Bool, take, vec_capacity};
+ghost use Rattle.i_tree.specs.Expiring.Live.{live_pairs, NoneExpiresBefore};
 ghost use Rattle.i_tree.specs.Root.Live.{is_live};
 
 use crate::select::select;
@@ -103,8 +103,7 @@ pub fn keep_live<X: Expires<K, E>, K: Copy, E: Expiration, V: Copy, A: Allocator
 
 // Moves the pairs that are live at `time` to the front, in their order. Each key is asked once when it expires.
 //
-// Those before the first expired one stay where they are. Which of the others are live follows no pattern that the processor could
-// guess, so each turn goes on by selections alone.
+// Which pairs are live follows no pattern that the processor could guess, so each turn goes on by selections alone.
 fn pack_live<X: Expires<K, E>, K: Copy, E: Expiration, V: Copy>(
     pairs: &mut [(K, V)],
     time: E,
@@ -112,12 +111,12 @@ fn pack_live<X: Expires<K, E>, K: Copy, E: Expiration, V: Copy>(
     ensures live { take result.count pairs.new ≡ live_pairs X.expiration E.cmp time pairs.old }
     ensures earliest { NoneExpiresBefore X.expiration E.cmp result.earliest (take result.count pairs.new) }
 {
-    let (front, mut earliest) = live_front::<X, K, E, V>(pairs, time);
-    let mut count = front;
+    let mut count: usize = 0;
+    let mut earliest = E::max_expiration();
     let mut gap = pairs.len();
     // The first `count` pairs are the live ones of those so far, none of which expires before `earliest`. Those from `place` on are
     // as they were.
-    for place in front..pairs.len() {
+    for place in 0..pairs.len() {
         let pair = pairs[place];
         let expiration = X::expiration(&pair.0);
         let stays = expiration >= time;
@@ -131,25 +130,4 @@ fn pack_live<X: Expires<K, E>, K: Copy, E: Expiration, V: Copy>(
         earliest,
         gap,
     }
-}
-
-// How many pairs stand before the first that is expired at `time`, and a time before which none of these expires.
-fn live_front<X: Expires<K, E>, K: Copy, E: Expiration, V: Copy>(
-    pairs: &[(K, V)],
-    time: E,
-) -> (usize, E)
-    ensures within { result.0 ≤ length pairs.now }
-    ensures live { AllLive X.expiration E.cmp time (take result.0 pairs.now) }
-    ensures earliest { NoneExpiresBefore X.expiration E.cmp result.1 (take result.0 pairs.now) }
-{
-    let mut earliest = E::max_expiration();
-    // The pairs so far are live, and none of them expires before `earliest`.
-    for place in 0..pairs.len() {
-        let expiration = X::expiration(&pairs[place].0);
-        if !(expiration >= time) {
-            return (place, earliest);
-        }
-        earliest = earliest.min(expiration);
-    }
-    (pairs.len(), earliest)
 }

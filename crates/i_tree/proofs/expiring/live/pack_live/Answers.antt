@@ -1,13 +1,8 @@
 use Rattle.std.proofs.Common.{◌≡◌, ◌<◌, ◌∙◌, length, sym, arith}
 use Rattle.i_tree.specs.Root.Live.{is_live}
-use Rattle.i_tree.proofs.ExpiringLemmas.Packing.{late-more, packed-begun, packed-more}
+use Rattle.i_tree.proofs.ExpiringLemmas.Packing.{late-more, packed-more}
 use Rattle.i_tree.proofs.ExpiringLemmas.Times.{ge_from_cmp}
 use Rattle.i_tree.proofs.expiring.live.pack_live.Goals as goal
-
-pub loop-place-init : goal.loop-place-init
-loop-place-init g c =
-    let front = c.live_front-front.ensures in
-    record { packed = packed-begun _ _ c.live_front-front.result.0 front.within front.live; late = front.earliest }
 
 pub loop-place-preserved : goal.loop-place-preserved
 loop-place-preserved g c =
