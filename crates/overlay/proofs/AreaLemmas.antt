@@ -6,7 +6,6 @@ pub mod Directed
 pub mod Fans
 pub mod First
 pub mod Leant
-pub mod Left
 pub mod Multiple
 pub mod Nearest
 pub mod Potential

@@ -27,7 +27,7 @@ pub use Rattle.overlay.proofs.WindsLemmas.Rings.{boundary-once}
 -- counterclockwise of the next. Where the edges wind once around a point or not at all, those that end there and those that start
 -- there take turns. Each has one next edge, which is that of no other one; and along that edge a walk goes on, also
 -- where all are sheared.
-pub use Rattle.overlay.proofs.AreaLemmas.Left.{just_above, left_of, right_of}
+pub use Rattle.overlay.specs.Sides.{just_above, left_of, right_of}
 pub use Rattle.overlay.proofs.AreaLemmas.Leant.{leftmost-sheared}
 pub use Rattle.overlay.proofs.AreaLemmas.Nearest.{leftmost-next, next-alone, next-once, next-some}
 pub use Rattle.overlay.proofs.AreaLemmas.Wedges.{IsNextAround, clockwise_of, counter_of, same-between}
@@ -36,7 +36,6 @@ pub use Rattle.overlay.proofs.WindsLemmas.Corners.{ends-next, left-alike, left-o
 pub use Rattle.overlay.proofs.WindsLemmas.Pairs.{ArePairsBut, HasCome, IsNextPlace, goes-off, goes-on, pairs-back, pairs-begin, pairs-end, pairs-first}
 -- Of polygons that wind once around a point or not at all each does by itself, where the edge just below a leftwards one is of the
 -- same polygon.
-pub use Rattle.overlay.proofs.WindsLemmas.Each.{IsNextBelow}
 pub use Rattle.overlay.proofs.WindsLemmas.Polygons.{KeepTogether, each-once}
 -- So it is where the edges of each ring have the polygon as often on their left, and each hole is at home where the ring just below
 -- its first edge is.

@@ -9,7 +9,8 @@ use Rattle.plane.specs.declared.point.Point.{Point}
 use Rattle.plane.specs.Meet.Edges.{RationalPoint}
 use Rattle.overlay.specs.declared.fill.rules.FillRule.{FillRule}
 use Rattle.overlay.specs.declared.fill.rules.Operation.{Operation}
-use Rattle.overlay.specs.Boundary.{BoundsResult, HasSloped, WindsAsBroken, result_at}
+use Rattle.overlay.specs.Boundary.{BoundsResult, WindsAsBroken, result_at}
+use Rattle.overlay.specs.Polygons.{BoundsSome, HasSignedArea, HasSloped, IsPolygon, WindsOnce, rings_of}
 use Rattle.overlay.specs.Contours.Outlines.{AreOutlines, outline}
 use Rattle.overlay.specs.Contours.Rings.{AreContours, ring_edges}
 use Rattle.overlay.specs.Fill.Rules.{is_result}
@@ -26,7 +27,6 @@ use Rattle.overlay.specs.Overlay.{IsOverlay, polygon_edges}
 use Rattle.overlay.proofs.GroupingLemmas.Corners.{rings-corners}
 use Rattle.overlay.proofs.GroupingLemmas.Grouped.{map-joined}
 use Rattle.overlay.proofs.GroupingLemmas.Outlined.{outlines-run, polygons-outlined}
-use Rattle.overlay.specs.Polygons.{BoundsSome, HasSignedArea, IsPolygon, WindsOnce, rings_of}
 use Rattle.overlay.specs.Rings.{has_two_ends, real_edges}
 use Rattle.overlay.proofs.RingLemmas.{winding-real}
 use Rattle.overlay.proofs.WindsLemmas.Rings.{boundary-once, outlines-once}

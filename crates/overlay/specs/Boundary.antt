@@ -13,6 +13,7 @@ use Rattle.overlay.specs.Contours.Rings.{IsRing, ring_edges}
 use Rattle.overlay.specs.Fill.Filled.{AreDistinct, AreNoded}
 use Rattle.overlay.specs.Fill.Turned.{turned}
 use Rattle.overlay.specs.Fill.Rules.{is_result}
+use Rattle.overlay.specs.Polygons.{HasSloped}
 use Rattle.noding.specs.Chains.{IsHot}
 use Rattle.noding.specs.Local.{IsNodeChain}
 use Rattle.plane.specs.Ends.{edge_between, end_of, reversed, start_of}
@@ -60,10 +61,6 @@ pub record BoundsResult (rule : FillRule) (operation : Operation) (subject clip 
 pub record IsBoundary (rule : FillRule) (operation : Operation) (subject clip : List Edge) (rings : List (List Point)) : Type 0 where
   pub each : All IsRing rings
   pub bounds : BoundsResult rule operation subject clip (flat_map ring_edges rings)
-
--- Some edge isn't vertical, if there are any.
-abbrev pub HasSloped : List Edge → Type 0
-HasSloped edges = edges ≢ [] → (edge : Edge) × Contains edges edge × (edge.x0 ≢ edge.x1)
 
 -- Rings that bound the result stand behind the points and behind where rings stopped among these, and if there are any, some edge
 -- of theirs isn't vertical.

@@ -6,6 +6,8 @@ pub mod Fill
 pub mod Grouping
 pub mod Joined
 pub mod Lines
+pub mod Nesting
 pub mod Overlay
 pub mod Polygons
 pub mod Rings
+pub mod Sides

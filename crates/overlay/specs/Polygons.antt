@@ -1,5 +1,5 @@
 -- Polygons: an outer ring that runs counterclockwise, and holes that run clockwise.
-use Rattle.std.specs.Prelude.{ℕ, ◌≡◌, ◌⊎◌, pos, negsuc, ◌++◌, Bool, true, false, ◌&&◌, not, cond, List, [], ◌∷◌, All, Option, Some, None, length, ◌<ℤ◌}
+use Rattle.std.specs.Prelude.{ℕ, ◌≡◌, ◌≢◌, ◌⊎◌, Contains, pos, negsuc, ◌++◌, Bool, true, false, ◌&&◌, not, cond, List, [], ◌∷◌, All, Option, Some, None, length, ◌<ℤ◌}
 use Rattle.std.specs.List.{flat_map}
 use Rattle.std.specs.Int.Signed.{lt_z}
 use Rattle.std.specs.Ordering.{int_eq, is_lt}
@@ -7,7 +7,6 @@ use Rattle.plane.specs.declared.edge.Edge.{Edge}
 use Rattle.plane.specs.declared.point.Point.{Point}
 use Rattle.plane.specs.SweepLine.Heights.{rightwards}
 use Rattle.overlay.specs.Areas.{twice_area}
-use Rattle.overlay.specs.Boundary.{HasSloped}
 use Rattle.overlay.specs.Contours.Rings.{ring_edges}
 use Rattle.plane.specs.Meet.Edges.{RationalPoint}
 use Rattle.overlay.specs.Fill.Begins.{cmp_begins}
@@ -75,6 +74,10 @@ AreAsBefore before after = (after.points.items ≡ before.points.items) × (afte
 -- Something may stand behind the polygons that were there.
 abbrev pub AreExtended : {A : Type 0} → Polygons A → Polygons A → Type 0
 AreExtended before after = Extends before.points.items after.points.items × Extends before.ring_ends.items after.ring_ends.items × Extends before.polygon_ends.items after.polygon_ends.items
+
+-- Some edge isn't vertical, if there are any.
+abbrev pub HasSloped : List Edge → Type 0
+HasSloped edges = edges ≢ [] → (edge : Edge) × Contains edges edge × (edge.x0 ≢ edge.x1)
 
 -- Edges that bound a region of the plane: they meet only at common ends, no two have the same, and they wind once around each
 -- point of it, and around no others. One of them isn't vertical, if there are any.

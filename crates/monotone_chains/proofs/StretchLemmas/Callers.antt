@@ -6,7 +6,8 @@ use Rattle.plane.specs.declared.edge.Edge.{Edge}
 use Rattle.plane.specs.declared.point.Point.{Point}
 use Rattle.overlay.specs.declared.fill.rules.FillRule.{FillRule}
 use Rattle.overlay.specs.declared.fill.rules.Operation.{Operation}
-use Rattle.overlay.specs.Boundary.{AreBroken, BoundsResult, HasSloped, IsBoundary}
+use Rattle.overlay.specs.Boundary.{AreBroken, BoundsResult, IsBoundary}
+use Rattle.overlay.specs.Polygons.{HasSloped}
 use Rattle.overlay.specs.Contours.Rings.{AreContours, ring_edges}
 use Rattle.overlay.specs.Fill.Filled.{IsFilled}
 use Rattle.monotone_chains.specs.Stretches.{AreStretches, IsWidened, chord}

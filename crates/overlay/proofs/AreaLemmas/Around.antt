@@ -14,7 +14,7 @@ use Rattle.overlay.specs.Contours.Turns.{ComesBefore}
 use Rattle.overlay.specs.Fill.Filled.{AreDistinct, AreNoded}
 use Rattle.overlay.specs.Grouping.{edges_from}
 use Rattle.overlay.proofs.AreaLemmas.Fans.{along-own}
-use Rattle.overlay.proofs.AreaLemmas.Left.{just_above, just_below, left_of, on_left}
+use Rattle.overlay.specs.Sides.{just_above, just_below, left_of, on_left}
 use Rattle.overlay.proofs.AreaLemmas.Touching.{Touches}
 use Rattle.overlay.proofs.AreaLemmas.Wedges.{IsNextAround, left-ending, left-starting, same-between, way_from}
 use Rattle.overlay.proofs.ContourLemmas.Callers.{IsClosed-ring}

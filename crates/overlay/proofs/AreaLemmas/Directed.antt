@@ -17,11 +17,11 @@ use Rattle.overlay.specs.Fill.Filled.{AreDistinct, AreNoded}
 use Rattle.overlay.specs.Polygons.{first_sloped, is_counterclockwise}
 use Rattle.overlay.proofs.AreaLemmas.Around.{one-left}
 use Rattle.overlay.proofs.AreaLemmas.First.{left-leftwards, left-rightwards}
-use Rattle.overlay.proofs.AreaLemmas.Left.{HaveOnLeft, on_left}
-use Rattle.overlay.proofs.AreaLemmas.Sheared.{AreDistinct-sheared, AreNoded-sheared, IsRing-sheared, ring_edges-sheared, sheared, sheared_edge, total-sheared}
+use Rattle.overlay.specs.Sides.{HaveOnLeft, IsLow, on_left, sheared, sheared_edge}
+use Rattle.overlay.proofs.AreaLemmas.Sheared.{AreDistinct-sheared, AreNoded-sheared, IsRing-sheared, ring_edges-sheared, total-sheared}
 use Rattle.overlay.proofs.AreaLemmas.Slanted.{slanted-runs, slanted-sloped}
 use Rattle.overlay.proofs.AreaLemmas.Slices.{area-above, area-below}
-use Rattle.overlay.proofs.AreaLemmas.Wide.{IsLow, all-low}
+use Rattle.overlay.proofs.AreaLemmas.Wide.{all-low}
 use Rattle.overlay.proofs.ContourLemmas.Counts.{ring-closed}
 use Rattle.overlay.proofs.FillLemmas.Premises.{All-among}
 use Rattle.overlay.proofs.GroupingLemmas.Begins.{IsFirst, Told, has-edge, told-all}

@@ -13,7 +13,7 @@ use Rattle.overlay.specs.Fill.Counts.{is_over, is_lower_on, below_on}
 use Rattle.overlay.specs.Fill.Filled.{AreDistinct, AreNoded, HaveSameEnds}
 use Rattle.overlay.specs.Fill.Pieces.{total, weight}
 use Rattle.overlay.proofs.AreaLemmas.Beneath.{beneath, is_upto_point, not_above}
-use Rattle.overlay.proofs.AreaLemmas.Left.{along, is_edge, just_above, just_below, upto_on}
+use Rattle.overlay.specs.Sides.{along, is_edge, just_above, just_below, upto_on}
 use Rattle.overlay.proofs.AreaLemmas.Touching.{Away, Touches, and-alike, and-never, below-off, lower-off, no-beneath, not-above-off, touches-or, upto-off, upto-touching}
 use Rattle.overlay.proofs.FillLemmas.Along.{count-along}
 use Rattle.overlay.proofs.FillLemmas.Aside.{IsAside, aside}

@@ -17,7 +17,7 @@ use Rattle.overlay.specs.Fill.Begins.{BeginsUpto, steps}
 use Rattle.overlay.specs.Fill.Counts.{below_on, is_lower_on, is_over}
 use Rattle.overlay.specs.Fill.Filled.{AreDistinct, AreNoded}
 use Rattle.overlay.specs.Fill.Pieces.{weight}
-use Rattle.overlay.proofs.AreaLemmas.Left.{just_below, on_left}
+use Rattle.overlay.specs.Sides.{just_below, on_left}
 use Rattle.overlay.proofs.ContourLemmas.Counts.{closed-starts, counted, found, is_at, is_at-itself, is_at-same}
 use Rattle.overlay.proofs.FillLemmas.Order.{lower-asym, lower-irrefl}
 use Rattle.overlay.proofs.FillLemmas.Premises.{All-among}

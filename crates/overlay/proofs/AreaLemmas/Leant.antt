@@ -9,7 +9,8 @@ use Rattle.noding.proofs.SnapLemmas.Numbers.{n_of, product_positive}
 use Rattle.plane.specs.Ends.{end_of, start_of}
 use Rattle.overlay.specs.Contours.Order.{edge_at, point_at}
 use Rattle.overlay.specs.Contours.Turns.{AreAlike, ComesBefore, Direction, IsLeft, IsLeftmost, Leaves, TurnsBefore, direction_between, dot}
-use Rattle.overlay.proofs.AreaLemmas.Sheared.{sheared, sheared-same, sheared_edge}
+use Rattle.overlay.proofs.AreaLemmas.Sheared.{sheared-same}
+use Rattle.overlay.specs.Sides.{sheared, sheared_edge}
 use Rattle.overlay.proofs.ContourLemmas.Clockwise.{turn}
 use Rattle.overlay.proofs.ContourLemmas.Order.{point}
 use Rattle.overlay.proofs.ContourLemmas.Turns.{across, along, some_square}

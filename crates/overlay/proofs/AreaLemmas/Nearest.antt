@@ -12,7 +12,7 @@ use Rattle.overlay.specs.Contours.Order.{edge_at}
 use Rattle.overlay.specs.Contours.Turns.{ComesBefore, Direction, IsLeftmost, Leaves, direction_between}
 use Rattle.overlay.specs.Fill.Filled.{AreDistinct, AreNoded, HaveSameEnds}
 use Rattle.overlay.proofs.AreaLemmas.Fans.{told-same}
-use Rattle.overlay.proofs.AreaLemmas.Left.{is_edge}
+use Rattle.overlay.specs.Sides.{is_edge}
 use Rattle.overlay.proofs.AreaLemmas.Touching.{Away, Touches, touches-or}
 use Rattle.overlay.proofs.AreaLemmas.Wedges.{FromLeft, IsNextAround, ToRight, lower-left, lower-right, sided, way-end, way-start, way_from}
 use Rattle.overlay.proofs.ContourLemmas.Clockwise.{AreApart, comes-first, comes-once, comes-or, turn, turn-back}

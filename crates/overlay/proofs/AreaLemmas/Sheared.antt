@@ -19,17 +19,10 @@ use Rattle.overlay.specs.Contours.Rings.{IsRing, ring_edges}
 use Rattle.overlay.specs.Fill.Filled.{AreDistinct, AreNoded, HaveSameEnds}
 use Rattle.overlay.specs.Fill.Pieces.{total}
 use Rattle.overlay.specs.Grouping.{edges_from}
+use Rattle.overlay.specs.Sides.{sheared, sheared_edge}
 use Rattle.overlay.proofs.ContourLemmas.Order.{point}
 use Rattle.overlay.proofs.FillLemmas.Level.{MeetOnly}
 use Rattle.overlay.proofs.GroupingLemmas.Edges.{edges_from-first}
-
--- The point further along x by its y, where x is stretched n times.
-abbrev pub sheared : ℕ → Point → Point
-sheared n at = record { x = (pos n *ℤ at.x) +ℤ at.y; y = at.y }
-
--- The edge between its sheared ends.
-abbrev pub sheared_edge : ℕ → Edge → Edge
-sheared_edge n edge = edge_between (sheared n (start_of edge)) (sheared n (end_of edge))
 
 -- ---- the edges of a ring
 

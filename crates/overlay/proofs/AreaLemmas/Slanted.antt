@@ -12,8 +12,9 @@ use Rattle.overlay.specs.Fill.Begins.{BeginsUpto}
 use Rattle.overlay.specs.Fill.Filled.{AreDistinct, AreNoded}
 use Rattle.overlay.specs.Polygons.{first_sloped, runs_rightwards}
 use Rattle.overlay.proofs.AreaLemmas.First.{not-steepest}
-use Rattle.overlay.proofs.AreaLemmas.Sheared.{AreDistinct-sheared, AreNoded-sheared, sheared_edge}
-use Rattle.overlay.proofs.AreaLemmas.Wide.{IsLow, begins-sheared, flat-rightwards, runs-sheared, sloped-sheared, upright-rightwards}
+use Rattle.overlay.proofs.AreaLemmas.Sheared.{AreDistinct-sheared, AreNoded-sheared}
+use Rattle.overlay.specs.Sides.{IsLow, sheared_edge}
+use Rattle.overlay.proofs.AreaLemmas.Wide.{begins-sheared, flat-rightwards, runs-sheared, sloped-sheared, upright-rightwards}
 use Rattle.overlay.proofs.GroupingLemmas.Begins.{IsFirst, Told, told-all}
 use Rattle.overlay.proofs.GroupingLemmas.Outlined.{same-one}
 use Rattle.overlay.proofs.KeptLemmas.First.{turned-meet, turned-same}

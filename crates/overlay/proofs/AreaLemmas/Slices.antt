@@ -14,7 +14,7 @@ use Rattle.overlay.specs.Fill.Counts.{is_over}
 use Rattle.overlay.specs.Fill.Filled.{AreDistinct, AreNoded}
 use Rattle.overlay.specs.Fill.Pieces.{total, weight}
 use Rattle.noding.specs.Windings.{IsClosed}
-use Rattle.overlay.proofs.AreaLemmas.Left.{just_below, on_left}
+use Rattle.overlay.specs.Sides.{just_below, on_left}
 use Rattle.overlay.proofs.AreaLemmas.Multiple.{product, product-some, product-shared}
 use Rattle.overlay.proofs.AreaLemmas.Ranges.{along, along-total, along-below, reach, in-reach}
 use Rattle.overlay.proofs.AreaLemmas.Stretch.{Alternates, stretch-below, total-times}

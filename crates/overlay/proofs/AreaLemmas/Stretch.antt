@@ -16,7 +16,7 @@ use Rattle.overlay.specs.Fill.Filled.{AreDistinct, AreNoded, HaveSameEnds}
 use Rattle.overlay.specs.Fill.Pieces.{total, weight}
 use Rattle.noding.specs.Windings.{count}
 use Rattle.overlay.proofs.AreaLemmas.Alternating.{Turns, alternating}
-use Rattle.overlay.proofs.AreaLemmas.Left.{just_below}
+use Rattle.overlay.specs.Sides.{just_below}
 use Rattle.overlay.proofs.AreaLemmas.Multiple.{shared-order}
 use Rattle.overlay.proofs.AreaLemmas.Trapezoids.{slice}
 use Rattle.overlay.proofs.FillLemmas.Along.{count-along}

@@ -17,7 +17,7 @@ use Rattle.overlay.specs.Fill.Counts.{is_over, is_lower_on, below_on}
 use Rattle.overlay.specs.Fill.Filled.{AreNoded}
 use Rattle.overlay.specs.Fill.Pieces.{weight}
 use Rattle.overlay.proofs.AreaLemmas.Beneath.{is_below_point, is_upto_point, beneath, not_above, height-start, height-end, times-less, times-same}
-use Rattle.overlay.proofs.AreaLemmas.Left.{upto_on}
+use Rattle.overlay.specs.Sides.{upto_on}
 use Rattle.overlay.proofs.FillLemmas.Aside.{IsAside, IsOff, aside}
 use Rattle.overlay.proofs.FillLemmas.Level.{MeetOnly}
 use Rattle.overlay.proofs.FillLemmas.Order.{lower-apart, lower-asym}

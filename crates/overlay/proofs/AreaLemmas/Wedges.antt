@@ -18,7 +18,7 @@ use Rattle.overlay.specs.Fill.Filled.{AreDistinct, AreNoded}
 use Rattle.overlay.specs.Fill.Pieces.{total}
 use Rattle.overlay.proofs.AreaLemmas.Beneath.{beneath, not_above, same-beneath, same-not-above}
 use Rattle.overlay.proofs.AreaLemmas.Fans.{empty, highest, lowest, next}
-use Rattle.overlay.proofs.AreaLemmas.Left.{just_above, just_below, left_of, right_of}
+use Rattle.overlay.specs.Sides.{just_above, just_below, left_of, right_of}
 use Rattle.overlay.proofs.AreaLemmas.Touching.{Touches, touches-turned}
 use Rattle.overlay.proofs.ContourLemmas.Clockwise.{back-first, before-first, behind-first, between-first, beyond-first, onwards-first, turn, turn-back}
 use Rattle.overlay.proofs.FillLemmas.Balance.{AreBalanced}

@@ -12,15 +12,10 @@ use Rattle.plane.proofs.MeetLemmas.Identities.{at_most, at_most_of, identity, mi
 use Rattle.plane.proofs.SweepLineLemmas.Rightwards.{rightwards-left, rightwards-right, rightwards-same}
 use Rattle.noding.proofs.SnapLemmas.Numbers.{n_of}
 use Rattle.overlay.specs.Fill.Begins.{BeginsUpto, steps}
-use Rattle.overlay.proofs.AreaLemmas.Sheared.{sheared_edge}
+use Rattle.overlay.specs.Sides.{IsLow, sheared_edge}
 use Rattle.overlay.proofs.ContourLemmas.Order.{point}
 use Rattle.overlay.proofs.FillLemmas.Tests.{lt_same, lt_true}
 use Rattle.overlay.proofs.PieceLemmas.Made.{rightwards-onwards, steps-run}
-
--- Both ends of the edge are at most b above or below 0.
-pub record IsLow (b : ℕ) (edge : Edge) : Type 0 where
-  pub start : IsWithin b edge.y0
-  pub end : IsWithin b edge.y1
 
 -- ---- some b for all edges
 

@@ -8,7 +8,7 @@ use Rattle.std.proofs.lemmas.Bool.Decides.{Decides-int_eq}
 use Rattle.std.proofs.lemmas.List.Sorted.{Contains-permutation, IsPermutation-sym}
 use Rattle.i_tree.proofs.RootLemmas.Lists.{Contains-here}
 use Rattle.plane.specs.declared.edge.Edge.{Edge}
-use Rattle.overlay.specs.Boundary.{HasSloped}
+use Rattle.overlay.specs.Polygons.{HasSloped}
 use Rattle.overlay.specs.Fill.Filled.{IsNextInColumn}
 
 -- where one is vertical, another isn't

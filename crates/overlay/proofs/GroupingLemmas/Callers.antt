@@ -8,8 +8,7 @@ use Rattle.std.proofs.lemmas.List.Sorted.{All-permutation, IsPermutation-map, Is
 use Rattle.plane.specs.declared.point.Point.{Point}
 use Rattle.overlay.specs.Contours.Rings.{AreContours, IsRing, ring_edges}
 use Rattle.overlay.specs.Grouping.{AreHomes, AreWithin, is_outer, placed_from, placed_polygons, rank, ring_in}
-use Rattle.overlay.specs.Polygons.{BoundsSome, IsPolygon, is_counterclockwise}
-use Rattle.overlay.specs.Polygons.{rings_of as rings_of_all}
+use Rattle.overlay.specs.Polygons.{BoundsSome, IsPolygon, is_counterclockwise, rings_of as rings_of_all}
 use Rattle.overlay.specs.Rings.{AreEnds, edges_in, rings_of}
 use Rattle.overlay.specs.declared.grouping.order.PlacedRing.{PlacedRing}
 use Rattle.overlay.proofs.EachRing.{rings-size}

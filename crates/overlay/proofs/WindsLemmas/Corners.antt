@@ -19,7 +19,7 @@ use Rattle.overlay.specs.Fill.Counts.{is_over}
 use Rattle.overlay.specs.Fill.Filled.{AreDistinct, AreNoded}
 use Rattle.overlay.specs.Fill.Pieces.{total, weight}
 use Rattle.overlay.proofs.AreaLemmas.Fans.{along-own, upto-parts}
-use Rattle.overlay.proofs.AreaLemmas.Left.{along, just_above, just_below, left_of, right_of, upto_on}
+use Rattle.overlay.specs.Sides.{along, just_above, just_below, left_of, right_of, upto_on}
 use Rattle.overlay.proofs.AreaLemmas.Wedges.{IsNextAround, clockwise_of, counter_of, left-ending, left-starting, right-ending, right-starting, same-between}
 use Rattle.overlay.proofs.BoundaryLemmas.Apart.{lower, upper, winds-more}
 use Rattle.overlay.proofs.FillLemmas.Balance.{AreBalanced}

@@ -20,6 +20,7 @@ use Rattle.noding.proofs.SnapLemmas.Rounding.{Floor, floor_is}
 use Rattle.overlay.specs.Fill.Counts.{is_lower_on, is_over}
 use Rattle.overlay.specs.Fill.Filled.{AreDistinct, AreNoded, HaveSameEnds}
 use Rattle.overlay.specs.Fill.Pieces.{total, weight}
+use Rattle.overlay.specs.Nesting.{IsNextBelow}
 use Rattle.overlay.proofs.FillLemmas.Kept.{same-rightwards}
 use Rattle.overlay.proofs.FillLemmas.Level.{MeetOnly}
 use Rattle.overlay.proofs.FillLemmas.Order.{lower-apart, lower-asym, lower-irrefl, lower-trans, middle, twofold}
@@ -33,16 +34,6 @@ use Rattle.overlay.proofs.FillLemmas.Weights.{weight-left, weight-none, weight-r
 use Rattle.overlay.proofs.FillLemmas.Wound.{winding-total}
 use Rattle.overlay.proofs.KeptLemmas.First.{turned-meet, turned-same}
 use Rattle.overlay.proofs.WindsLemmas.Paired.{IsJustBelow, IsOneOrNone, IsUnit, paired, upto}
-
--- Over the stretch from x to x + 1 the one is just below the other: both are over it, the one is lower, and none of the edges is
--- between.
-pub record IsNextBelow (edges : List Edge) (x : ℤ) (one other : Edge) : Type 0 where
-  pub among : Contains edges one
-  pub among_too : Contains edges other
-  pub over : is_over x (rightwards one) ≡ true
-  pub over_too : is_over x (rightwards other) ≡ true
-  pub less : is_lower_on x (rightwards one) (rightwards other) ≡ true
-  pub none : (between : Edge) → Contains edges between → is_over x (rightwards between) ≡ true → is_lower_on x (rightwards one) (rightwards between) ≡ true → ¬ (is_lower_on x (rightwards between) (rightwards other) ≡ true)
 
 -- Each leftwards edge is one of some exactly if the edge just below it is, over each stretch.
 abbrev pub AreTogether : (Edge → Bool) → List Edge → Type 0

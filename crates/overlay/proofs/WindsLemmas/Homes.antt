@@ -12,8 +12,9 @@ use Rattle.plane.specs.SweepLine.Heights.{rightwards}
 use Rattle.overlay.specs.Fill.Counts.{below_on, is_lower_on, is_over}
 use Rattle.overlay.specs.Fill.Filled.{AreDistinct, AreNoded, HaveSameEnds}
 use Rattle.overlay.specs.Fill.Pieces.{total, weight}
+use Rattle.overlay.specs.Nesting.{IsNextBelow}
 use Rattle.overlay.proofs.AreaLemmas.Fans.{between, here, told-same}
-use Rattle.overlay.proofs.AreaLemmas.Left.{along, is_edge, just_above, just_below, left_of, right_of}
+use Rattle.overlay.specs.Sides.{along, is_edge, just_above, just_below, left_of, right_of}
 use Rattle.overlay.proofs.AreaLemmas.Touching.{and-never}
 use Rattle.overlay.proofs.FillLemmas.Balance.{AreBalanced}
 use Rattle.overlay.proofs.FillLemmas.Least.{first-of}
@@ -25,7 +26,7 @@ use Rattle.overlay.proofs.FillLemmas.Weights.{weight-left, weight-right}
 use Rattle.overlay.proofs.KeptLemmas.First.{total-one, turned-same}
 use Rattle.overlay.proofs.PieceLemmas.Made.{rightwards-onwards}
 use Rattle.overlay.proofs.WindsLemmas.Corners.{left-once, right-none}
-use Rattle.overlay.proofs.WindsLemmas.Each.{AreTogether, IsNextBelow, winds-own}
+use Rattle.overlay.proofs.WindsLemmas.Each.{AreTogether, winds-own}
 use Rattle.overlay.proofs.WindsLemmas.Paired.{IsOneOrNone}
 
 -- The first edge of each edge's ring, and a number of the ring: it has the same number on its left, and is of the same polygon;

@@ -16,7 +16,7 @@ use Rattle.overlay.specs.declared.fill.pieces.Piece.{Piece}
 use Rattle.overlay.specs.Fill.Counts.{Counts, counts_above, counts_below, kept_edge, kept_edges}
 use Rattle.overlay.specs.Fill.Filled.{AreDistinct, AreNoded}
 use Rattle.overlay.specs.Fill.Pieces.{ArePieces, total, weight}
-use Rattle.overlay.proofs.AreaLemmas.Left.{just_below, on_left}
+use Rattle.overlay.specs.Sides.{just_below, on_left}
 use Rattle.overlay.proofs.FillLemmas.Filled.{filled}
 use Rattle.overlay.proofs.FillLemmas.Premises.{All-among}
 use Rattle.overlay.proofs.FillLemmas.Tests.{int_eq-true, lt_false, lt_true}

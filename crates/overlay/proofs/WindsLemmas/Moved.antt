@@ -15,7 +15,7 @@ use Rattle.plane.specs.Meet.Edges.{RationalPoint}
 use Rattle.plane.proofs.MeetLemmas.Identities.{identity, minus, number, plus, scaled, times}
 use Rattle.noding.specs.Windings.{is_under, winding}
 use Rattle.noding.proofs.SnapLemmas.Numbers.{n_of, same_test}
-use Rattle.overlay.proofs.AreaLemmas.Sheared.{sheared_edge}
+use Rattle.overlay.specs.Sides.{sheared_edge}
 use Rattle.overlay.proofs.AreaLemmas.Wide.{bound, wider}
 
 -- ---- tests

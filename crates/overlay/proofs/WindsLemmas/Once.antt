@@ -15,9 +15,8 @@ use Rattle.overlay.specs.Contours.Rings.{IsRing, ring_edges}
 use Rattle.overlay.specs.Fill.Filled.{AreDistinct, AreNoded}
 use Rattle.overlay.specs.Polygons.{WindsOnce}
 use Rattle.overlay.proofs.AreaLemmas.Directed.{left-none, left-once}
-use Rattle.overlay.proofs.AreaLemmas.Left.{HaveOnLeft}
-use Rattle.overlay.proofs.AreaLemmas.Sheared.{sheared_edge}
-use Rattle.overlay.proofs.AreaLemmas.Wide.{IsLow, all-low, wider}
+use Rattle.overlay.specs.Sides.{HaveOnLeft, IsLow, sheared_edge}
+use Rattle.overlay.proofs.AreaLemmas.Wide.{all-low, wider}
 use Rattle.overlay.proofs.FillLemmas.Premises.{All-among}
 use Rattle.overlay.proofs.WindsLemmas.Left.{IsUpto, winds-left}
 use Rattle.overlay.proofs.WindsLemmas.Moved.{all-within, moved, moved-apart, sheared_point, under-moved, under-sheared, winding-map}

@@ -17,11 +17,12 @@ use Rattle.noding.specs.Windings.{winding}
 use Rattle.overlay.specs.Contours.Rings.{ring_edges}
 use Rattle.overlay.specs.Fill.Filled.{AreDistinct, AreNoded, HaveSameEnds}
 use Rattle.overlay.specs.Joined.{is_same}
+use Rattle.overlay.specs.Nesting.{IsNextBelow}
 use Rattle.overlay.specs.Overlay.{polygon_edges}
 use Rattle.overlay.specs.Polygons.{rings_of}
 use Rattle.overlay.proofs.FillLemmas.Premises.{All-among}
 use Rattle.overlay.proofs.FillLemmas.Tests.{int_eq-true}
-use Rattle.overlay.proofs.WindsLemmas.Each.{IsNextBelow, winds-own}
+use Rattle.overlay.proofs.WindsLemmas.Each.{winds-own}
 use Rattle.overlay.proofs.WindsLemmas.Paired.{IsOneOrNone}
 
 -- A leftwards edge is one of these exactly if the edge just below it is, over each stretch.

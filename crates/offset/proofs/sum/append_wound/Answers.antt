@@ -8,8 +8,7 @@ use Rattle.noding.specs.Windings.{IsClosed}
 use Rattle.overlay.specs.Boundary.{BoundsResult}
 use Rattle.overlay.specs.Contours.Outlines.{outline}
 use Rattle.overlay.specs.Contours.Rings.{AreContours, IsRing, ring_edges}
-use Rattle.overlay.specs.Polygons.{AreAppended, BoundsSome, IsPolygon}
-use Rattle.overlay.specs.Polygons.{rings_of as all_rings}
+use Rattle.overlay.specs.Polygons.{AreAppended, BoundsSome, IsPolygon, rings_of as all_rings}
 use Rattle.overlay.specs.Rings.{edges_in}
 use Rattle.overlay.specs.declared.fill.rules.Operation.TheVariants.{Union}
 use Rattle.overlay.proofs.Callers.{AreEnds-joined, AreJoined-first, bounds-some, rings-joined}

@@ -5,8 +5,7 @@ use Rattle.plane.specs.declared.point.Point.{Point}
 use Rattle.overlay.specs.Boundary.{BoundsResult}
 use Rattle.overlay.specs.Contours.Outlines.{outline}
 use Rattle.overlay.specs.Contours.Rings.{AreContours, IsRing, ring_edges}
-use Rattle.overlay.specs.Polygons.{AreAppended, BoundsSome, IsPolygon}
-use Rattle.overlay.specs.Polygons.{rings_of as all_rings}
+use Rattle.overlay.specs.Polygons.{AreAppended, BoundsSome, IsPolygon, rings_of as all_rings}
 use Rattle.overlay.specs.Rings.{edges_in, edges_of, real_edges}
 use Rattle.overlay.proofs.Callers.{AreEnds-joined, AreJoined-first, rings-joined}
 use Rattle.overlay.proofs.OverlayLemmas.{bounds-some, polygons-overlay}

@@ -9,8 +9,7 @@ use Rattle.overlay.specs.Contours.Outlines.{outline}
 use Rattle.overlay.specs.Contours.Rings.{AreContours, IsRing, ring_edges}
 use Rattle.overlay.specs.declared.fill.rules.FillRule.TheVariants.{NonZero}
 use Rattle.overlay.specs.declared.fill.rules.Operation.TheVariants.{Intersection}
-use Rattle.overlay.specs.Polygons.{AreAppended, BoundsSome, IsPolygon}
-use Rattle.overlay.specs.Polygons.{rings_of as all_rings}
+use Rattle.overlay.specs.Polygons.{AreAppended, BoundsSome, IsPolygon, rings_of as all_rings}
 use Rattle.overlay.specs.Rings.{edges_in}
 use Rattle.overlay.proofs.Callers.{AreEnds-joined, AreJoined-first, IsClosed-ring, rings-joined}
 use Rattle.tiles.proofs.Cut.{border-behind, border-real, cut-overlay, cut-sloped, kept-first, kept-real, rings-some}
