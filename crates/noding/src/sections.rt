@@ -20,11 +20,11 @@ const MOST_BITS: u32 = 6;
 
 // An edge whose box is likely to have fewer than two to the power of so many points isn't cut. With as many, the sections take as
 // long as the whole.
-const LEAST_BITS: u32 = 8;
+const LEAST_BITS: u32 = 6;
 
-// With so many bits of likely points fewer there are as many sections as points in each. A section takes as long as some eight
+// With so many bits of likely points fewer there are as many sections as points in each. A section takes as long as some four
 // points.
-const BITS_LESS: u32 = 3;
+const BITS_LESS: u32 = 2;
 
 /// A section of the edge at this place: what of it lies in the box of the chord.
 #[derive(Clone, Copy)]

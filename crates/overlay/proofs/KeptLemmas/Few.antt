@@ -5,17 +5,18 @@ use Rattle.std.proofs.lemmas.Int.{ints, by_lt_z}
 use Rattle.std.proofs.lemmas.List.{get_or-drop, get_or-take, get_or_default, length-take-le, take-append-drop, take-append-le, take_more}
 use Rattle.plane.specs.declared.edge.Edge.{Edge}
 use Rattle.plane.specs.declared.point.Point.{Point}
+use Rattle.plane.specs.Ends.{start_of}
 use Rattle.overlay.specs.declared.fill.pieces.Piece.{Piece}
 use Rattle.overlay.specs.Fill.Counts.{Counts, is_over, is_lower_on, kept_edge}
-use Rattle.overlay.specs.Fill.Few.{counts_upto, is_upto}
+use Rattle.overlay.specs.Fill.Few.{HaveEnded, LastBeginsAt, counts_upto, is_upto}
 use Rattle.overlay.specs.Fill.Pieces.{total}
 use Rattle.overlay.specs.Fill.Sweep.{AreFillPieces, Fits, WeighUpto, below_of, is_below_on, kept_of, no_piece, plus}
 use Rattle.overlay.specs.Fill.Turned.{asked}
 use Rattle.overlay.proofs.FillLemmas.Callers.{lower-irrefl}
 use Rattle.overlay.proofs.FillLemmas.Totals.{total-append, total-more, total-none, total-same}
-use Rattle.overlay.proofs.KeptLemmas.Begun.{piece_at, x_order}
+use Rattle.overlay.proofs.KeptLemmas.Begun.{goes_on, piece_at, x_order}
 use Rattle.overlay.proofs.KeptLemmas.Swept.{kept_of-more}
-use Rattle.overlay.proofs.KeptLemmas.Upto.{later-above, start_at, upto-ended, upto-lower}
+use Rattle.overlay.proofs.KeptLemmas.Upto.{later-above, start_at, upto-begun, upto-ended, upto-lower}
 
 no_less : (a b c : ℤ) → a ≡ pos 0 → b ≡ c → (a +ℤ b) ≡ c
 no_less a b c none is = omega (arith, ints, none, is)
@@ -39,6 +40,16 @@ live-counted point pieces ended late = ap₂ counts_of (live (λ p. p.subject)) 
         (total-none (asked (is_upto point) weigh) (take ended pieces) (λ i d within. let p = get_or (take ended pieces) i d in ap (λ t. cond t (weigh p) (pos 0)) (upto-ended point p.edge (late i d within)))) refl)
         ∙ sym (total-append (asked (is_upto point) weigh) (take ended pieces) (drop ended pieces))
         ∙ ap (total (asked (is_upto point) weigh)) (take-append-drop ended pieces)
+
+-- The counts are numbers of 64 bits.
+pub counts-within : (point : Point) (pieces : List Piece) (most : ℕ) → most < 2 ^ 63 → WeighUpto most pieces → Fits (counts_upto point pieces) no_piece
+counts-within point pieces most countable weigh =
+    let within_most = weigh (is_upto point) in
+    let a = within_most.0.from in
+    let b = within_most.0.upto in
+    let c = within_most.1.from in
+    let e = within_most.1.upto in
+    record { from = omega (arith, ints, countable, a); below = omega (arith, ints, countable, b); clip_from = omega (arith, ints, countable, c); clip_below = omega (arith, ints, countable, e) }
 
 -- One piece more.
 module _ (point : Point) (pieces : List Piece) (n : ℕ) (d : Piece) (within : n < length pieces) where
@@ -91,12 +102,11 @@ module _ (pieces : List Piece) (fill : AreFillPieces pieces) (k : ℕ) (within :
   begun_size = length-take-le k pieces (omega (arith, within))
 
   -- each of the first ones has begun
-  pub begun-from : (ended : ℕ) → All (λ p. p.edge.x0 ≤ℤ g.edge.x0) (drop ended (take k pieces))
-  begun-from ended i d inside =
+  pub begun-from : All (λ p. p.edge.x0 ≤ℤ g.edge.x0) (take k pieces)
+  begun-from i d inside =
       let size = begun_size in
-      let rest = length-drop ended (take k pieces) in
-      let less : ended + i < k = omega (arith, size, rest, inside) in
-      subst (λ (p : Piece). p.edge.x0 ≤ℤ g.edge.x0) (sym (get_or-drop ended (take k pieces) i d ∙ begun_at (ended + i) d less)) (x_order pieces fill (ended + i) k less within)
+      let less : i < k = omega (arith, size, inside) in
+      subst (λ (p : Piece). p.edge.x0 ≤ℤ g.edge.x0) (sym (begun_at i d less)) (x_order pieces fill i k less within)
 
   -- of the others none is lower where it begins
   not_lower : (j : ℕ) → k ≤ j → j < length pieces → is_below_on g.edge.x0 g.edge (piece_at pieces j).edge ≡ false
@@ -138,16 +148,18 @@ module _ (pieces : List Piece) (fill : AreFillPieces pieces) (k : ℕ) (within :
           subst (λ (p : Piece). below p ≡ pos 0) (sym (get_or-drop k pieces i d ∙ sym (get_or_default pieces (k + i) no_piece d at)))
           (ap (λ t. cond t (weigh (piece_at pieces (k + i))) (pos 0)) (not_lower (k + i) (omega arith) at))
 
-  -- So what is below a piece is what those before it weigh that haven't ended and aren't above its start.
-  pub below-counted : (ended : ℕ) → All (λ p. p.edge.x1 ≤ℤ g.edge.x0) (take ended (take k pieces)) → counts_upto start (drop ended (take k pieces)) ≡ below_of pieces g
+  -- So what is below a piece is what those before it weigh that go on and aren't above its start.
+  pub below-counted : counts_upto start (take k pieces) ≡ below_of pieces g
   unfolding counts_of
-  below-counted ended late = live-counted start (take k pieces) ended late ∙ ap₂ counts_of (counted (λ p. p.subject)) (counted (λ p. p.clip))
+  below-counted = ap₂ counts_of (counted (λ p. p.subject)) (counted (λ p. p.clip))
 
   -- Those that have ended have so where the next one begins.
-  pub ended-more : (ended : ℕ) → ended ≤ length (take k pieces) → All (λ p. p.edge.x1 ≤ℤ g.edge.x0) (take ended (take k pieces)) → k + 1 < length pieces → All (λ p. p.edge.x1 ≤ℤ (piece_at pieces (k + 1)).edge.x0) (take ended (take (k + 1) pieces))
-  ended-more ended few late more =
-      subst (All (λ p. p.edge.x1 ≤ℤ (piece_at pieces (k + 1)).edge.x0)) (sym (ap (take ended) (take_more pieces k no_piece within) ∙ take-append-le ended (take k pieces) (g ∷ []) few))
-      (λ i d inside. let upto = late i d inside in let order = x_order pieces fill k (k + 1) (omega arith) more in omega (arith, ints, upto, order))
+  pub ended-more : (ended : ℕ) → HaveEnded start ended (take k pieces) → (more : k + 1 < length pieces) → HaveEnded (start_at pieces fill (k + 1) more) ended (take (k + 1) pieces)
+  ended-more ended (few, late) more = (
+    (let size = begun_size in let size_too = length-take-le (k + 1) pieces (omega (arith, more)) in omega (arith, few, size, size_too)),
+    subst (All (λ p. p.edge.x1 ≤ℤ (piece_at pieces (k + 1)).edge.x0)) (sym (ap (take ended) (take_more pieces k no_piece within) ∙ take-append-le ended (take k pieces) (g ∷ []) few))
+        (λ i d inside. let upto = late i d inside in let order = x_order pieces fill k (k + 1) (omega arith) more in omega (arith, ints, upto, order)),
+  )
 
   -- What is kept of it stands behind what is kept of those before.
   pub kept-more : (inside : Counts → Bool) (before out outcome : List Edge) (counts : Counts) → counts ≡ below_of pieces g → out ≡ before ++ kept_of inside pieces (take k pieces)
@@ -159,3 +171,16 @@ module _ (pieces : List Piece) (fill : AreFillPieces pieces) (k : ℕ) (within :
       ∙ append_assoc before (kept_of inside pieces (take k pieces)) (kept_edge (inside (below_of pieces g)) (inside (plus (below_of pieces g) g)) g.edge [])
       ∙ ap (λ (list : List Edge). before ++ list) (sym (kept_of-more inside pieces (take k pieces) g))
       ∙ ap (λ (done : List Piece). before ++ kept_of inside pieces done) (sym (take_more pieces k no_piece within))
+
+-- Where a piece begins with the one before it, what is above that one is what is below.
+pub above-last : (pieces : List Piece) (fill : AreFillPieces pieces) (k : ℕ) (within : k < length pieces) (point : Point) → LastBeginsAt point (take k pieces)
+    → plus (below_of pieces (piece_at pieces (k - 1))) (piece_at pieces (k - 1)) ≡ counts_upto point (take k pieces)
+above-last pieces fill k within point (some, begins) =
+    let size = length-take-le k pieces (omega (arith, within)) in
+    let last : k - 1 < k = omega (arith, some, size) in
+    let inside : k - 1 < length pieces = omega (arith, last, within) in
+    let here : start_of (piece_at pieces (k - 1)).edge ≡ point =
+    ap (λ (p : Piece). start_of p.edge) (sym (get_or-take k pieces (k - 1) no_piece last) ∙ ap (λ (n : ℕ). get_or (take k pieces) (n - 1) no_piece) (sym size)) ∙ begins in
+    ap (λ (counts : Counts). plus counts (piece_at pieces (k - 1))) (sym (below-counted pieces fill (k - 1) inside) ∙ ap (λ (start : Point). counts_upto start (take (k - 1) pieces)) here)
+    ∙ counts-more point pieces (k - 1) no_piece inside (upto-begun point (piece_at pieces (k - 1)).edge here (goes_on pieces fill (k - 1) inside))
+    ∙ ap (λ (n : ℕ). counts_upto point (take n pieces)) (omega (arith, last))

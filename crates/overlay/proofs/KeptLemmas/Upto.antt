@@ -1,21 +1,19 @@
 -- What is lower than a piece where that begins: of those that have begun it is what goes on and isn't above the start.
 use Rattle.std.proofs.Common.{◌≡◌, ◌≢◌, ◌<◌, true, false, not, ◌&&◌, ℕ, ℤ, pos, ◌+ℤ◌, ◌-ℤ◌, ◌*ℤ◌, ◌≤ℤ◌, ◌<ℤ◌, List, length, refl, ap, sym, subst, ◌∙◌, arith}
-use Rattle.std.specs.Int.{int_max, int_min}
 use Rattle.std.specs.Int.Signed.{lt_z}
 use Rattle.std.specs.Ordering.{int_cmp}
 use Rattle.std.specs.declared.cmp.Ordering.{Ordering}
 use Rattle.std.specs.declared.cmp.Ordering.TheVariants.{Less, Greater}
 use Rattle.std.proofs.lemmas.Cmp.{int_ranked}
-use Rattle.std.proofs.lemmas.Int.{ints, clamps, by_lt_z}
+use Rattle.std.proofs.lemmas.Int.{ints, by_lt_z}
 use Rattle.plane.specs.declared.edge.Edge.{Edge}
 use Rattle.plane.specs.declared.point.Point.{Point}
 use Rattle.plane.specs.declared.sweep_line.active.ActiveEdge.{ActiveEdge}
+use Rattle.plane.specs.Ends.{start_of}
 use Rattle.plane.specs.SweepLine.Active.{cmp_behind, then_cmp}
 use Rattle.plane.specs.SweepLine.Heights.{run, height_by_run}
-use Rattle.plane.proofs.MeetLemmas.Identities.{number, plus, minus, times, identity}
+use Rattle.plane.proofs.MeetLemmas.Identities.{number, times, identity}
 use Rattle.plane.proofs.SweepLineLemmas.Comparisons.{at_begin, not_greater, says_greater, says_less, starts-earlier, starts-later}
-use Rattle.plane.proofs.SweepLineLemmas.Gaps.{product_above}
-use Rattle.noding.proofs.SnapLemmas.Numbers.{product_positive}
 use Rattle.overlay.specs.declared.fill.pieces.Piece.{Piece}
 use Rattle.overlay.specs.Fill.Counts.{is_over, is_lower_on}
 use Rattle.overlay.specs.Fill.Few.{is_upto}
@@ -27,20 +25,7 @@ use Rattle.overlay.proofs.FillLemmas.Tests.{lt_false, lt_true, over_is, over_lat
 use Rattle.overlay.proofs.KeptLemmas.Begun.{begins_upto, goes_on, held, piece_at, x_order}
 use Rattle.overlay.proofs.PieceLemmas.Made.{begins-lower}
 
--- ---- by the ends of an edge
-
--- how far an edge is below a height, times its run, by how far its ends are
-below_by : (x x0 x1 y y0 y1 : ℤ) → ((y *ℤ (x1 -ℤ x0)) -ℤ ((y0 *ℤ (x1 -ℤ x)) +ℤ (y1 *ℤ (x -ℤ x0)))) ≡ (((x1 -ℤ x) *ℤ (y -ℤ y0)) +ℤ ((x -ℤ x0) *ℤ (y -ℤ y1)))
-below_by x x0 x1 y y0 y1 =
-    identity (minus (times (number y) (minus (number x1) (number x0))) (plus (times (number y0) (minus (number x1) (number x))) (times (number y1) (minus (number x) (number x0)))))
-    (plus (times (minus (number x1) (number x)) (minus (number y) (number y0))) (times (minus (number x) (number x0)) (minus (number y) (number y1))))
-    (omega arith)
-
-above_by : (x x0 x1 y y0 y1 : ℤ) → (((y0 *ℤ (x1 -ℤ x)) +ℤ (y1 *ℤ (x -ℤ x0))) -ℤ (y *ℤ (x1 -ℤ x0))) ≡ (((x1 -ℤ x) *ℤ (y0 -ℤ y)) +ℤ ((x -ℤ x0) *ℤ (y1 -ℤ y)))
-above_by x x0 x1 y y0 y1 =
-    identity (minus (plus (times (number y0) (minus (number x1) (number x))) (times (number y1) (minus (number x) (number x0)))) (times (number y) (minus (number x1) (number x0))))
-    (plus (times (minus (number x1) (number x)) (minus (number y0) (number y))) (times (minus (number x) (number x0)) (minus (number y1) (number y))))
-    (omega arith)
+-- ---- by heights
 
 -- one that has ended doesn't go on
 pub upto-ended : (point : Point) (edge : Edge) → edge.x1 ≤ℤ point.x → is_upto point edge ≡ false
@@ -54,22 +39,6 @@ module _ (point : Point) (edge : Edge) (begun : edge.x0 ≤ℤ point.x) where
   pub above-at : point.x <ℤ edge.x1 → (point.y *ℤ run edge) <ℤ height_by_run edge point.x → is_upto point edge ≡ false
   above-at before above = rw (lt_true point.x edge.x1 before, lt_true (point.y *ℤ run edge) (height_by_run edge point.x) above) refl
 
-  -- nor where neither end is above it
-  pub upto-ends : point.x <ℤ edge.x1 → int_max edge.y0 edge.y1 ≤ℤ point.y → is_upto point edge ≡ true
-  upto-ends before low =
-      let first = product_above (edge.x1 -ℤ point.x) (point.y -ℤ edge.y0) (omega (arith, ints, before)) (omega (arith, ints, clamps, low)) in
-      let second = product_above (point.x -ℤ edge.x0) (point.y -ℤ edge.y1) (omega (arith, ints, begun)) (omega (arith, ints, clamps, low)) in
-      let is = below_by point.x edge.x0 edge.x1 point.y edge.y0 edge.y1 in
-      upto-at before (omega (arith, ints, first, second, is))
-
-  -- and it is above it where both ends are
-  pub above-ends : point.x <ℤ edge.x1 → point.y <ℤ int_min edge.y0 edge.y1 → is_upto point edge ≡ false
-  above-ends before high =
-      let first = product_positive (edge.x1 -ℤ point.x) (edge.y0 -ℤ point.y) (omega (arith, ints, before)) (omega (arith, ints, clamps, high)) in
-      let second = product_above (point.x -ℤ edge.x0) (edge.y1 -ℤ point.y) (omega (arith, ints, begun)) (omega (arith, ints, clamps, high)) in
-      let is = above_by point.x edge.x0 edge.x1 point.y edge.y0 edge.y1 in
-      above-at before (omega (arith, ints, first, second, is))
-
   -- and what a comparison of both heights says
   pub upto-compared : point.x <ℤ edge.x1 → (r : Ordering) → r ≡ int_cmp (height_by_run edge point.x) (point.y *ℤ run edge) → (r ≢ Greater → is_upto point edge ≡ true) × (r ≡ Greater → is_upto point edge ≡ false)
   upto-compared before r told = (
@@ -80,6 +49,12 @@ module _ (point : Point) (edge : Edge) (begun : edge.x0 ≤ℤ point.x) where
     where
       never : (a b : ℤ) → a ≤ℤ b → int_cmp a b ≡ Greater → ⊥
       never a b upto greater = let ranked = int_ranked a b Greater (sym greater) in omega (arith, ints, ranked, upto)
+
+-- what begins at the point isn't above it
+pub upto-begun : (point : Point) (edge : Edge) → start_of edge ≡ point → edge.x0 <ℤ edge.x1 → is_upto point edge ≡ true
+upto-begun point edge is onwards =
+    let level = at_begin edge in
+    subst (λ (start : Point). is_upto start edge ≡ true) is (upto-at (start_of edge) edge (omega (arith, ints)) onwards (omega (arith, ints, level)))
 
 -- ---- the pieces
 

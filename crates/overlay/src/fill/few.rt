@@ -1,9 +1,9 @@
 //! The fill of few pieces: each is compared with those that have begun before it.
 
-ghost use Rattle.std.specs.Prelude.{◌≡◌, ◌++◌, ◌≤◌, ◌<◌, ◌^◌, ◌≤ℤ◌, ℕ, All, OnOk, OnErr, length, take};
-ghost use Rattle.overlay.specs.Fill.Few.{counts_upto, is_upto};
+ghost use Rattle.std.specs.Prelude.{◌≡◌, ◌++◌, ◌<◌, ◌^◌, ◌<ℤ◌, ◌≤ℤ◌, pos, true, false, ℕ, All, OnOk, OnErr, drop, take};
+ghost use Rattle.overlay.specs.Fill.Few.{HaveEnded, LastBeginsAt, counts_upto, is_upto};
 ghost use Rattle.overlay.specs.Fill.Rules.{is_result};
-ghost use Rattle.overlay.specs.Fill.Sweep.{AreFillPieces, WeighUpto, kept_of};
+ghost use Rattle.overlay.specs.Fill.Sweep.{AreFillPieces, Fits, WeighUpto, kept_of, no_piece, plus};
 ghost use Rattle.plane.specs.Lists.{Extends};
 
 use super::counts::{Counts, is_result, keep, plus};
@@ -30,28 +30,54 @@ pub fn append_by_comparing<A: Allocator>(
     ensures err { OnErr result (Extends out.old.items out.new.items) }
 {
     let mut ended = 0;
-    // The pieces so far have begun, and the first `ended` of them have ended.
+    let mut above = Counts {
+        subject: 0,
+        clip: 0,
+    };
+    // The pieces so far have begun, the first `ended` of them have ended, and the counts are those above the last one.
     for place in 0..pieces.len() {
         let piece = pieces[place];
-        let start = start_of(piece.edge);
-        let begun = &pieces[..place];
-        ended = count_ended(begun, ended, start);
-        let below = counts_upto(&begun[ended..], start);
-        let counts = plus(below, piece);
+        let below = counts_below(&pieces[..place], &mut ended, above, start_of(piece.edge));
+        above = plus(below, piece);
         let is_below = is_result(choice, below);
-        let is_above = is_result(choice, counts);
+        let is_above = is_result(choice, above);
         keep(out, piece.edge, is_below, is_above)?;
     }
     Ok(())
 }
 
+// As `counts_upto`, where so many of the first pieces are known to have ended by the point's x, and it tells how many are then.
+// Where the last piece begins at the point, too, it is what is above that piece.
+fn counts_below(begun: &[Piece], ended: &mut usize, above: Counts, point: Point) -> Counts
+    requires begun { All (λ piece. piece.edge.x0 ≤ℤ point.x) begun.now }
+    requires weigh { (most : ℕ) × (most < 2 ^ 63) × ((first count : ℕ) → WeighUpto most (take count (drop first begun.now))) }
+    requires ended { HaveEnded point ended.old begun.now }
+    requires above { LastBeginsAt point begun.now → above ≡ counts_upto point begun.now }
+    ensures counts { result ≡ counts_upto point begun.now }
+    ensures ended { HaveEnded point ended.new begun.now }
+{
+    if last_begins_at(begun, point) {
+        return above;
+    }
+    *ended = count_ended(begun, *ended, point);
+    counts_upto(&begun[*ended..], point)
+}
+
+// Whether the last of the pieces begins at the point.
+fn last_begins_at(pieces: &[Piece], point: Point) -> bool
+    ensures { result ≡ true → LastBeginsAt point pieces.now }
+{
+    match pieces.last() {
+        Some(last) => last.edge.x0 == point.x && last.edge.y0 == point.y,
+        None => false,
+    }
+}
+
 // How many of the first pieces have ended by the point's x, where so many are known to have. Some behind one that hasn't may have
 // ended too.
 fn count_ended(begun: &[Piece], known: usize, point: Point) -> usize
-    requires within { known ≤ length begun.now }
-    requires known { All (λ piece. piece.edge.x1 ≤ℤ point.x) (take known begun.now) }
-    ensures within { result ≤ length begun.now }
-    ensures ended { All (λ piece. piece.edge.x1 ≤ℤ point.x) (take result begun.now) }
+    requires { HaveEnded point known begun.now }
+    ensures { HaveEnded point result begun.now }
 {
     let mut count = known;
     while count < begun.len() && begun[count].edge.x1 <= point.x {
@@ -71,26 +97,43 @@ fn counts_upto(begun: &[Piece], point: Point) -> Counts
         clip: 0,
     };
     for piece in begun {
-        if is_upto(piece.edge, point) {
-            counts = plus(counts, *piece);
+        if point.x < piece.edge.x1 {
+            counts = plus_unless_above(counts, *piece, point);
         }
     }
     counts
 }
 
-// Whether the edge goes on behind the point's x and isn't above the point. Mostly its ends tell, and no product is needed.
-fn is_upto(edge: Edge, point: Point) -> bool
-    requires { edge.x0 ≤ℤ point.x }
-    ensures { result ≡ is_upto point edge }
+// What the piece, which goes on behind the point's x, adds to the counts, unless it is above the point. No branch depends on that,
+// since it would be guessed wrongly often.
+fn plus_unless_above(counts: Counts, piece: Piece, point: Point) -> Counts
+    requires begun { piece.edge.x0 ≤ℤ point.x }
+    requires goes_on { point.x <ℤ piece.edge.x1 }
+    requires within { Fits counts no_piece }
+    requires fits { is_upto point piece.edge ≡ true → Fits counts piece }
+    ensures upto { is_upto point piece.edge ≡ true → result ≡ plus counts piece }
+    ensures above { is_upto point piece.edge ≡ false → result ≡ counts }
 {
-    if edge.x1 <= point.x {
-        return false;
+    let is_upto = compare_to_point(piece.edge, point) != Ordering::Greater;
+    plus(counts, weighed(piece, is_upto))
+}
+
+// The piece, or one that weighs nothing where it isn't counted.
+fn weighed(piece: Piece, is_counted: bool) -> Piece
+    ensures counted { is_counted ≡ true → result ≡ piece }
+    ensures left { is_counted ≡ false → (result.subject ≡ pos 0) × (result.clip ≡ pos 0) }
+{
+    Piece {
+        edge: piece.edge,
+        subject: weight_if(is_counted, piece.subject),
+        clip: weight_if(is_counted, piece.clip),
     }
-    if edge.y0.max(edge.y1) <= point.y {
-        return true;
-    }
-    if point.y < edge.y0.min(edge.y1) {
-        return false;
-    }
-    compare_to_point(edge, point) != Ordering::Greater
+}
+
+// The weight of what is counted, or 0.
+fn weight_if(is_counted: bool, weight: i64) -> i64
+    ensures counted { is_counted ≡ true → result ≡ weight }
+    ensures left { is_counted ≡ false → result ≡ pos 0 }
+{
+    if is_counted { weight } else { 0 }
 }

@@ -23,7 +23,7 @@ use plane::sweep_line::{ActiveEdge, insert_beginning};
 use std::alloc::Allocator;
 
 // With no more pieces than these, each is compared with those before it, which is quicker than a status even where all go on.
-const FEW_PIECES: usize = 128;
+const FEW_PIECES: usize = 192;
 
 /// Appends the edges kept of these pieces: those that have the result on one of their sides alone, so that it is on the left.
 ///

@@ -7,11 +7,19 @@ ghost use Rattle.plane.specs.Pairs.Pairs.{PairAt, PairBetween};
 ghost use Rattle.plane.specs.Pairs.Points.{Gains, MeetsAt};
 
 use super::boxes::boxes_meet;
+use super::extents::extents_of;
 use super::items::{Bounds, Boxed, Meets};
 use std::alloc::{AllocError, Allocator};
 
 // So many items are few. A comparison of two boxes takes about a fiftieth of what a sweep takes for each item.
 const FEW_ITEMS: usize = 64;
+
+// Up to so many items are few where their boxes are small.
+const FEW_SMALL_ITEMS: usize = 256;
+
+// Boxes are small where a mean one is such a share of the box of all items at most, by its divisor. Of larger ones so many meet
+// that a sweep, which gives up where it tests too often, takes less time.
+const SMALL: u128 = 32;
 
 // Fewer items are compared one by one, without boxes around runs of them.
 const FEWEST_IN_RUNS: usize = 24;
@@ -23,8 +31,18 @@ const RUN: usize = 6;
 const FEW_POINTS: usize = 8;
 
 /// Whether the items are so few that a comparison of all of them finds their pairs soonest.
-pub fn are_few<T>(items: &[T]) -> bool {
-    items.len() <= FEW_ITEMS
+pub fn are_few<T: Boxed>(items: &[T]) -> bool {
+    items.len() <= FEW_ITEMS || (items.len() <= FEW_SMALL_ITEMS && are_small(items))
+}
+
+// Whether the boxes of the items are small beside that of all.
+fn are_small<T: Boxed>(items: &[T]) -> bool {
+    let all = extents_of(items);
+    let count = items.len() as u128;
+    let wide = count.saturating_mul(all.right.abs_diff(all.left) as u128);
+    let tall = count.saturating_mul(all.high.abs_diff(all.low) as u128);
+    let boxes = u128::from(all.widths).saturating_mul(u128::from(all.heights));
+    boxes.saturating_mul(SMALL) <= wide.saturating_mul(tall)
 }
 
 /// Whether the points are so few that items are soonest compared with all of them.
