@@ -4,6 +4,7 @@ pub mod Callers
 pub mod Clockwise
 pub mod Counts
 pub mod Ends
+pub mod Fans
 pub mod Order
 pub mod Outlines
 pub mod RealEdges

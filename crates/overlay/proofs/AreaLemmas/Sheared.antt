@@ -110,7 +110,7 @@ module _ (n : ℕ) (some : 0 < n) where
   -- ---- points of sheared edges
 
   -- the point of which this is the sheared one
-  abbrev back : RationalPoint → RationalPoint
+  abbrev pub back : RationalPoint → RationalPoint
   back at = record {
     n = at.n * n;
     x = at.x -ℤ at.y;

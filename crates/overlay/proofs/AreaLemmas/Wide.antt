@@ -56,7 +56,7 @@ all-low (edge ∷ edges) =
 -- ---- either way of an edge
 
 -- what holds of an edge and of the reversed one holds of it turned rightwards
-by-turned : (P : Edge → Type 0) (edge : Edge) → P edge → P (reversed edge) → P (rightwards edge)
+pub by-turned : (P : Edge → Type 0) (edge : Edge) → P edge → P (reversed edge) → P (rightwards edge)
 by-turned P edge same turned = by (lt_z edge.x1 edge.x0) refl
   where
     by : (t : Bool) → lt_z edge.x1 edge.x0 ≡ t → P (rightwards edge)
@@ -64,7 +64,7 @@ by-turned P edge same turned = by (lt_z edge.x1 edge.x0) refl
     by false e = subst P (sym (rightwards-right edge e)) same
 
 -- an edge turned rightwards is as low
-low-rightwards : (b : ℕ) (edge : Edge) → IsLow b edge → IsLow b (rightwards edge)
+pub low-rightwards : (b : ℕ) (edge : Edge) → IsLow b edge → IsLow b (rightwards edge)
 low-rightwards b edge low = by-turned (IsLow b) edge low (record { start = low.end; end = low.start })
 
 -- how far a sheared edge goes along x
@@ -93,7 +93,7 @@ slopes n a c k m some upto =
 
 module _ (n b : ℕ) (wide : b + b < n) where
   -- what is further right stays so
-  further-right : (x y x' y' : ℤ) → IsWithin b y → IsWithin b y' → x <ℤ x' → ((pos n *ℤ x) +ℤ y) <ℤ ((pos n *ℤ x') +ℤ y')
+  pub further-right : (x y x' y' : ℤ) → IsWithin b y → IsWithin b y' → x <ℤ x' → ((pos n *ℤ x) +ℤ y) <ℤ ((pos n *ℤ x') +ℤ y')
   further-right x y x' y' first second less =
       let more = scaled n (x +ℤ pos 1) x' (omega (arith, ints, less)) in
       let sum = identity (times (n_of n) (plus (number x) (n_of 1))) (plus (times (n_of n) (number x)) (n_of n)) (omega arith) in
@@ -102,7 +102,7 @@ module _ (n b : ℕ) (wide : b + b < n) where
       omega (arith, ints, more, sum, upto, from, wide)
 
   -- and what isn't further left wasn't
-  not-left : (x y x' y' : ℤ) → IsWithin b y → IsWithin b y' → ((pos n *ℤ x) +ℤ y) ≤ℤ ((pos n *ℤ x') +ℤ y') → x ≤ℤ x'
+  pub not-left : (x y x' y' : ℤ) → IsWithin b y → IsWithin b y' → ((pos n *ℤ x) +ℤ y) ≤ℤ ((pos n *ℤ x') +ℤ y') → x ≤ℤ x'
   not-left x y x' y' first second upto =
       by_lt_z x' x
       (λ left. let less = further-right x' y' x y second first left in absurd (omega (arith, ints, less, upto)))
@@ -144,7 +144,7 @@ module _ (n b : ℕ) (wide : b + b < n) where
         (further-right edge.x0 edge.y0 edge.x1 edge.y1 low.start low.end)
 
     -- so it is turned rightwards as before
-    rightwards-sheared : edge.x0 ≢ edge.x1 → rightwards (sheared_edge n edge) ≡ sheared_edge n (rightwards edge)
+    pub rightwards-sheared : edge.x0 ≢ edge.x1 → rightwards (sheared_edge n edge) ≡ sheared_edge n (rightwards edge)
     rightwards-sheared sloped =
         by_lt_z edge.x0 edge.x1
         (λ onwards.

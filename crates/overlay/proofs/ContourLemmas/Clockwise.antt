@@ -220,7 +220,7 @@ not-left-above back way above (inl below) = omega (arith, ints, above, below)
 not-left-above back way above (inr (none, ahead)) = omega (arith, ints, above, none)
 
 -- of ways that aren't apart in their turns, both go to different sides
-level-opposite : (one other : Direction) → AreApart one other → turn one other ≡ pos 0 → AreOpposite one other
+pub level-opposite : (one other : Direction) → AreApart one other → turn one other ≡ pos 0 → AreOpposite one other
 level-opposite one other (inl opposite) level = opposite
 level-opposite one other (inr (beside, inl less)) level = absurd (omega (arith, ints, less, level))
 level-opposite one other (inr (beside, inr more)) level = absurd (omega (arith, ints, more, level))
@@ -234,7 +234,7 @@ one-beside a e f (inr (er, fl)) (inr (ar, el)) third = omega (arith, ints, el, e
 one-beside a e f (inr (er, fl)) (inl (al, er_too)) (inr (ar, fl_too)) = omega (arith, ints, ar, al)
 one-beside a e f (inr (er, fl)) (inl (al, er_too)) (inl (al_too, fr)) = omega (arith, ints, fr, fl)
 
-opposite-back : (one other : Direction) → AreOpposite one other → AreOpposite other one
+pub opposite-back : (one other : Direction) → AreOpposite one other → AreOpposite other one
 opposite-back one other (inl (left, right)) = inr (right, left)
 opposite-back one other (inr (right, left)) = inl (left, right)
 

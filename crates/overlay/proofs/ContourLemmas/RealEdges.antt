@@ -15,7 +15,7 @@ few_pieces (point ∷ []) few = refl
 few_pieces (point ∷ next ∷ points) few = absurd (omega (arith, few))
 
 -- one point more
-pieces-closing : (first : Point) (others : List Point) (to d : Point) → pieces (first ∷ (others ++ to ∷ [])) ≡ pieces (first ∷ others) ++ edge_between (get_or (first ∷ others) (length others) d) to ∷ []
+pub pieces-closing : (first : Point) (others : List Point) (to d : Point) → pieces (first ∷ (others ++ to ∷ [])) ≡ pieces (first ∷ others) ++ edge_between (get_or (first ∷ others) (length others) d) to ∷ []
 pieces-closing first [] to d = refl
 pieces-closing first (next ∷ others) to d = ap (λ (edges : List Edge). edge_between first next ∷ edges) (pieces-closing next others to d)
 

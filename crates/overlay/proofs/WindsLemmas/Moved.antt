@@ -9,14 +9,15 @@ use Rattle.std.proofs.lemmas.Int.{by_lt_z, ints}
 use Rattle.std.proofs.lemmas.List.Elements.{All-cons, All-head, All-nil, All-tail, All-weaker}
 use Rattle.std.proofs.lemmas.List.Sums.{sum_by-cons}
 use Rattle.plane.specs.declared.edge.Edge.{Edge}
-use Rattle.plane.specs.Ends.{reversed}
+use Rattle.plane.specs.Ends.{end_of, reversed, start_of}
 use Rattle.plane.specs.Meet.Crosses.{IsWithin, cross}
 use Rattle.plane.specs.Meet.Edges.{RationalPoint}
 use Rattle.plane.proofs.MeetLemmas.Identities.{identity, minus, number, plus, scaled, times}
-use Rattle.noding.specs.Windings.{is_under, winding}
+use Rattle.noding.specs.Windings.{IsClosed, is_under, winding}
 use Rattle.noding.proofs.SnapLemmas.Numbers.{n_of, same_test}
-use Rattle.overlay.specs.Sides.{sheared_edge}
+use Rattle.overlay.specs.Sides.{sheared, sheared_edge}
 use Rattle.overlay.proofs.AreaLemmas.Wide.{bound, wider}
+use Rattle.overlay.proofs.FillLemmas.Premises.{All-among}
 
 -- ---- tests
 
@@ -229,7 +230,7 @@ module _ (n b : ℕ) (wide : b < n) (point : RationalPoint) (apart : (z : ℤ) �
 -- ---- so they wind alike
 
 -- the same tests count as many
-count_by-map : {X Y : Type 0} (f : X → Y) (passes : Y → Bool) (test : X → Bool) (xs : List X) → All (λ x. passes (f x) ≡ test x) xs → count_by passes (map f xs) ≡ count_by test xs
+pub count_by-map : {X Y : Type 0} (f : X → Y) (passes : Y → Bool) (test : X → Bool) (xs : List X) → All (λ x. passes (f x) ≡ test x) xs → count_by passes (map f xs) ≡ count_by test xs
 count_by-map f passes test [] all = refl
 count_by-map f passes test (x ∷ xs) all =
     sum_by-cons (λ y. cond (passes y) 1 0) (f x) (map f xs)
@@ -242,3 +243,12 @@ pub winding-map : (f : Edge → Edge) (point other : RationalPoint) (edges : Lis
 winding-map f point other edges first second =
     ap₂ (λ (m n : ℕ). pos m -ℤ pos n) (count_by-map f (λ edge. is_under edge other) (λ edge. is_under edge point) edges first)
     (count_by-map f (λ edge. is_under (reversed edge) other) (λ edge. is_under (reversed edge) point) edges second)
+
+-- ---- closed edges
+
+-- Closed edges are closed once they are sheared.
+pub IsClosed-sheared : (n : ℕ) (edges : List Edge) → IsClosed edges → IsClosed (map (sheared_edge n) edges)
+IsClosed-sheared n edges closed test =
+    count_by-map (sheared_edge n) (λ edge. test (start_of edge)) (λ edge. test (sheared n (start_of edge))) edges (All-among (λ edge. test (sheared n (start_of edge)) ≡ test (sheared n (start_of edge))) edges (λ edge held. refl))
+    ∙ closed (λ point. test (sheared n point))
+    ∙ sym (count_by-map (sheared_edge n) (λ edge. test (end_of edge)) (λ edge. test (sheared n (end_of edge))) edges (All-among (λ edge. test (sheared n (end_of edge)) ≡ test (sheared n (end_of edge))) edges (λ edge held. refl)))

@@ -93,7 +93,7 @@ module _ (sorted : List Edge) (noded : AreNoded sorted) (distinct : AreDistinct 
   ]
 
   -- the next edge starts where the one ends
-  meets : (i j : ℕ) → IsNextPlace sorted i j → start_of (at j) ≡ end_of (at i)
+  pub meets : (i j : ℕ) → IsNextPlace sorted i j → start_of (at j) ≡ end_of (at i)
   meets i j next = starts-next sorted noded distinct sloped once closed (end_of (at i)) (at i) (at j) next.2 refl
 
   -- so it stands elsewhere
@@ -111,7 +111,7 @@ module _ (sorted : List Edge) (noded : AreNoded sorted) (distinct : AreDistinct 
       (next-once sorted noded distinct sloped (end_of (at i)) (at i) (at k) (at j) next.2
       (subst (λ (p : Point). IsNextAround sorted p (at k) (at j)) (sym (meets k j next_too) ∙ meets i j next) next_too.2))
 
-  next-place : (i : ℕ) → i < length sorted → (j : ℕ) × IsNextPlace sorted i j
+  pub next-place : (i : ℕ) → i < length sorted → (j : ℕ) × IsNextPlace sorted i j
   next-place i inside =
       let (other, is) = next-some sorted noded distinct sloped (end_of (at i)) (at i) (held i inside) (inr refl) closed in
       let (j, within, there) = is.among_too in
@@ -131,28 +131,20 @@ module _ (sorted : List Edge) (noded : AreNoded sorted) (distinct : AreDistinct 
     unlike i j is isnt same = never (sym is ∙ ap (λ (k : ℕ). get_or used k true) same ∙ isnt)
 
     -- A walk goes on along the next edge, and the one behind that isn't walked.
-    pub goes-on : (last place : ℕ) → HasCome sorted used start last → ¬ (EndsAt sorted start last) → IsLeftmost sorted used (start_of (at last)) (end_of (at last)) place
-        → IsNextPlace sorted last place × HasCome sorted (After place) start place
-    goes-on last place come away leftmost = (
-      next,
-      record {
-        inside = next.1;
-        walked = walked-after place next.1;
-        pairs = pairs;
-        waits = λ elsewhere j after. same-after place j (λ same. apart place j after (sym same)) ∙ sym (come.pairs place j after (either elsewhere)) ∙ leftmost.leaves.unused;
-      },
-    )
+    pub goes-next : (last place : ℕ) → HasCome sorted used start last → ¬ (EndsAt sorted start last) → IsNextPlace sorted last place → HasCome sorted (After place) start place
+    goes-next last place come away next = record {
+      inside = next.1;
+      walked = walked-after place next.1;
+      pairs = pairs;
+      waits = λ elsewhere j after. same-after place j (λ same. apart place j after (sym same)) ∙ sym (come.pairs place j after (either elsewhere)) ∙ unused;
+    }
       where
-        next : IsNextPlace sorted last place
-        next =
-            let (k, is) = next-place last come.inside in
-            let leaves : Leaves sorted used (end_of (at last)) k = record { inside = is.1; unused = come.waits away k is; starts = meets last k is } in
-            let same = leftmost-next sorted noded distinct sloped (end_of (at last)) used place k (at last) refl is.2 leaves leftmost in
-            (come.inside, leftmost.leaves.inside, subst (IsNextAround sorted (end_of (at last)) (at last)) (sym same) is.2)
+        unused : get_or used place true ≡ false
+        unused = come.waits away place next
 
         either : ¬ (EndsAt sorted start place) → ¬ (EndsAt sorted start place ⊎ (place ≡ last))
         either elsewhere (inl ends) = elsewhere ends
-        either elsewhere (inr same) = unlike last place come.walked leftmost.leaves.unused (sym same)
+        either elsewhere (inr same) = unlike last place come.walked unused (sym same)
 
         pairs : ArePairsBut sorted (After place) (λ i. EndsAt sorted start i ⊎ (i ≡ place))
         pairs i j after isnt = elim (nat-or i last) [
@@ -165,6 +157,18 @@ module _ (sorted : List Edge) (noded : AreNoded sorted) (distinct : AreDistinct 
             but : i ≢ last → ¬ (EndsAt sorted start i ⊎ (i ≡ last))
             but differ (inl ends) = isnt (inl ends)
             but differ (inr same) = differ same
+
+    -- It does so along the edge that turns furthest left of those that aren't walked.
+    pub goes-on : (last place : ℕ) → HasCome sorted used start last → ¬ (EndsAt sorted start last) → IsLeftmost sorted used (start_of (at last)) (end_of (at last)) place
+        → IsNextPlace sorted last place × HasCome sorted (After place) start place
+    goes-on last place come away leftmost = (next, goes-next last place come away next)
+      where
+        next : IsNextPlace sorted last place
+        next =
+            let (k, is) = next-place last come.inside in
+            let leaves : Leaves sorted used (end_of (at last)) k = record { inside = is.1; unused = come.waits away k is; starts = meets last k is } in
+            let same = leftmost-next sorted noded distinct sloped (end_of (at last)) used place k (at last) refl is.2 leaves leftmost in
+            (come.inside, leftmost.leaves.inside, subst (IsNextAround sorted (end_of (at last)) (at last)) (sym same) is.2)
 
     -- A walk begins, or goes on where it began, along any edge that starts there.
     pub goes-off : (place : ℕ) → ArePairsBut sorted used (EndsAt sorted start) → Leaves sorted used start place → HasCome sorted (After place) start place

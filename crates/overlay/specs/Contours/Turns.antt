@@ -1,5 +1,5 @@
 -- Which of the edges that start at a point turns furthest left. For private contracts.
-use Rattle.std.specs.Prelude.{◌≡◌, ◌≢◌, ◌⊎◌, ℕ, ◌<◌, ℤ, pos, ◌+ℤ◌, ◌-ℤ◌, ◌*ℤ◌, ◌<ℤ◌, Bool, true, false, List, get_or, length}
+use Rattle.std.specs.Prelude.{◌≡◌, ◌≢◌, ◌⊎◌, ℕ, ◌<◌, ℤ, pos, ◌+ℤ◌, ◌-ℤ◌, ◌*ℤ◌, ◌<ℤ◌, Bool, true, false, List, Option, Some, get_or, length}
 use Rattle.plane.specs.Meet.Crosses.{cross}
 use Rattle.plane.specs.declared.edge.Edge.{Edge}
 use Rattle.plane.specs.declared.point.Point.{Point}
@@ -65,3 +65,15 @@ IsBetter sorted back at place other best =
 pub record IsLeftmost (sorted : List Edge) (used : List Bool) (back at : Point) (place : ℕ) : Type 0 where
   pub leaves : Leaves sorted used at place
   pub first : back ≢ at → (other : ℕ) → Leaves sorted used at other → ¬ (TurnsBefore sorted back at other place)
+
+-- Of the edges that start at the point the one at this place comes strictly before each other one, clockwise from the way to the
+-- point `back`.
+pub record IsFirstAround (sorted : List Edge) (back at : Point) (place : ℕ) : Type 0 where
+  pub inside : place < length sorted
+  pub starts : point_at sorted place ≡ at
+  pub first : (other : ℕ) → other < length sorted → point_at sorted other ≡ at → other ≢ place → TurnsBefore sorted back at place other
+
+-- Where an edge goes from the point `back` to this one, and that first edge around isn't walked yet, it is the next one.
+abbrev pub TakesFirst : List Edge → List Bool → Point → Point → Option ℕ → Type 0
+TakesFirst sorted used back at next =
+    (last place : ℕ) → last < length sorted → point_at sorted last ≡ back → end_of (edge_at sorted last) ≡ at → IsFirstAround sorted back at place → get_or used place true ≡ false → next ≡ Some place

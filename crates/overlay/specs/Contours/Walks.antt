@@ -3,8 +3,10 @@ use Rattle.std.specs.Prelude.{◌≡◌, ◌≢◌, ℕ, ◌<◌, Bool, true, co
 use Rattle.std.specs.List.{flat_map}
 use Rattle.plane.specs.declared.edge.Edge.{Edge}
 use Rattle.plane.specs.declared.point.Point.{Point}
-use Rattle.overlay.specs.Contours.Order.{IsCorner, point_at}
+use Rattle.overlay.specs.Contours.Order.{IsCorner, edge_at, point_at}
 use Rattle.overlay.specs.Contours.Rings.{IsRing}
+use Rattle.overlay.specs.Contours.Turns.{IsFirstAround}
+use Rattle.plane.specs.Ends.{end_of}
 use Rattle.noding.specs.Offsets.{offsets}
 use Rattle.noding.specs.Windings.{pieces}
 
@@ -37,3 +39,7 @@ pub record AreAppended (rings : List (List Point)) (points_before points : List 
   pub each : All IsRing rings
   pub points_are : points ≡ points_before ++ flat_map (λ ring. ring) rings
   pub ends_are : ends ≡ ends_before ++ offsets (length points_before) rings
+
+-- Each edge is walked exactly if the first one clockwise where it ends is.
+abbrev pub ArePairs : List Edge → List Bool → Type 0
+ArePairs sorted used = (i j : ℕ) → i < length sorted → IsFirstAround sorted (point_at sorted i) (end_of (edge_at sorted i)) j → get_or used i true ≡ get_or used j true

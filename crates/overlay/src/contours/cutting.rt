@@ -1,6 +1,6 @@
 //! Loops of a walk, cut off as rings.
 
-ghost use Rattle.std.specs.Prelude.{◌≡◌, ◌++◌, ◌∷◌, [], ◌+◌, ◌<◌, All, IsPermutation, List, OnErr, OnOk, drop, length, map};
+ghost use Rattle.std.specs.Prelude.{◌≡◌, ◌++◌, ◌∷◌, [], ◌+◌, ◌<◌, All, IsPermutation, List, OnErr, OnOk, drop, get_or, length, map};
 ghost use Rattle.std.specs.List.{flat_map};
 ghost use Rattle.plane.specs.declared.point.Point.{Point};
 ghost use Rattle.overlay.specs.Contours.Order.{IsCorner, point_at};
@@ -27,7 +27,8 @@ pub fn cut_loop<A: Allocator>(
         × AreAppended rings points.old.items points.new.items ring_ends.old.items ring_ends.new.items
         × IsPermutation (flat_map ring_edges rings ++ path sorted.now stack.new.items corner)
         (path sorted.now stack.old.items corner)
-        × IsMarked sorted.now marks.now stack.new.items × IsOff stack.new.items corner) }
+        × IsMarked sorted.now marks.now stack.new.items × IsOff stack.new.items corner
+        × (get_or (stack.new.items ++ corner ∷ []) 0 0 ≡ get_or (stack.old.items ++ corner ∷ []) 0 0)) }
     ensures err { OnErr result (Extends points.old.items points.new.items
         × Extends ring_ends.old.items ring_ends.new.items) }
 {

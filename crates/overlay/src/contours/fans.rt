@@ -1,16 +1,19 @@
 //! Fans: the edges that start at a point where many do, in clockwise order.
 //!
 //! To find the one that turns furthest left, a walk would go over all edges of the point each time that it comes there: over
-//! n * n in all. In a fan it is the next one, clockwise from the way back, that isn't walked yet. What a fan tells is tested.
+//! n * n in all. In a fan it is the next one, clockwise from the way back, that isn't walked yet. The first one is told by the
+//! two between which the way back lies. Of those behind it, by links, what a fan tells is tested only for being no walked one.
 
 ghost use Rattle.std.specs.Bool.{OnTrue};
-ghost use Rattle.std.specs.Prelude.{◌≡◌, IfSome, MatchOption, length};
-ghost use Rattle.overlay.specs.Contours.Order.{AreInOrder, IsFirstFrom};
-ghost use Rattle.overlay.specs.Contours.Turns.{Leaves, NoneLeaves};
+ghost use Rattle.std.specs.Prelude.{◌≡◌, ◌<◌, [], All, Contains, IfOk, IfSome, MatchBool, MatchOption, OnOk, get_or, length};
+ghost use Rattle.overlay.specs.Contours.Fans.{AreAllFrom, AreClockwise, AreFans, IsTold, end_at, places};
+ghost use Rattle.overlay.specs.Contours.Order.{AreInOrder, IsFirstFrom, point_at};
+ghost use Rattle.overlay.specs.Contours.Turns.{Leaves, NoneLeaves, TakesFirst};
+ghost use Rattle.overlay.specs.Sides.{AreBorders};
 
 use super::order::first_from;
-use super::turns::{leftmost, starts_at};
-use plane::edge::{Edge, start_of};
+use super::turns::{comes_first, leftmost, starts_at};
+use plane::edge::{Edge, end_of, start_of};
 use plane::point::Point;
 use plane::vectors::{Vector, cross_product, vector_along, vector_between};
 use std::alloc::{AllocError, Allocator};
@@ -19,18 +22,24 @@ use std::cmp::Ordering;
 // To go over so many edges takes no longer than a search in a fan.
 const MANY: usize = 64;
 
-/// The spokes of all fans, by their points, and clockwise at each. Where a spoke is walked, its link goes to a later one, and
-/// all before that are walked.
+/// Fans, and the spokes of all of them, clockwise in each.
 #[derive(Drop)]
 pub struct Fans<A: Allocator> {
+    fans: Vec<Fan, A>,
     spokes: Vec<Spoke, A>,
-    links: Vec<usize, A>,
 }
 
-// An edge of a fan: its place among all edges, the place of the first one that starts at its point, and the way it goes.
+/// A fan: the place of the first edge that starts at its point, among all edges, and where its spokes stand among all spokes.
 #[derive(Clone, Copy)]
-struct Spoke {
+pub struct Fan {
     corner: usize,
+    start: usize,
+    end: usize,
+}
+
+/// An edge of a fan: its place among all edges, and the way it goes.
+#[derive(Clone, Copy)]
+pub struct Spoke {
     place: usize,
     way: Vector,
 }
@@ -47,50 +56,136 @@ enum Half {
 /// fewer.
 pub fn fans_of<A: Allocator + Copy>(alloc: A, sorted: &[Edge]) -> Result<Fans<A>, AllocError>
     requires { AreInOrder sorted.now }
+    ensures { IfOk result (λ fans. AreFans sorted.now fans.spokes.items fans.fans.items) }
 {
+    let mut fans = Vec::new(alloc);
     let mut spokes = Vec::new(alloc);
     let mut end = 0;
     // The fans so far have the edges before `end`.
     for place in (0..sorted.len()).step_by(MANY) {
-        if end <= place && is_crowded(sorted, place) {
-            let first = first_from(sorted, start_of(sorted[place]));
-            end = append_spokes(sorted, first, &mut spokes)?;
+        if place < end {
+            continue;
+        }
+        let Some(corner) = crowded_corner(sorted, place) else {
+            continue;
+        };
+        let fan = spokes_from(alloc, sorted, corner)?;
+        end = corner.saturating_add(fan.len());
+        append_fan(sorted, corner, &fan, &mut fans, &mut spokes)?;
+    }
+    Ok(Fans { fans, spokes })
+}
+
+// Appends a fan of these spokes, all that there are of its point, if they stand clockwise.
+fn append_fan<A: Allocator>(
+    sorted: &[Edge],
+    corner: usize,
+    fan: &[Spoke],
+    fans: &mut Vec<Fan, A>,
+    spokes: &mut Vec<Spoke, A>,
+) -> Result<(), AllocError>
+    requires fans { AreFans sorted.now spokes.old.items fans.old.items }
+    requires all { AreAllFrom sorted.now (point_at sorted.now corner) (places fan.now) }
+    ensures { OnOk result (AreFans sorted.now spokes.new.items fans.new.items) }
+{
+    if !are_clockwise(sorted, corner, fan) {
+        return Ok(());
+    }
+    let start = spokes.len();
+    spokes.extend_from_slice(fan)?;
+    let end = spokes.len();
+    fans.push(Fan { corner, start, end })?;
+    Ok(())
+}
+
+// Whether clockwise from the first of the edges none but it comes before the one that stands before it.
+fn are_clockwise(sorted: &[Edge], corner: usize, fan: &[Spoke]) -> bool
+    requires { All (λ place. place < length sorted.now) (places fan.now) }
+    ensures { OnTrue result (AreClockwise sorted.now (point_at sorted.now corner) (places fan.now)) }
+{
+    if sorted.len() <= corner || fan.is_empty() {
+        return false;
+    }
+    let at = start_of(sorted[corner]);
+    let first = end_of_spoke(sorted, fan, 0);
+    for spoke in 2..fan.len() {
+        let before = end_of_spoke(sorted, fan, spoke - 1);
+        if comes_first(at, first, end_of_spoke(sorted, fan, spoke), before) {
+            return false;
         }
     }
-    spokes.sort_unstable_by(|one: &Spoke, other: &Spoke| -> Ordering {
-        compare_spokes(*one, *other)
-    });
-    let links = links_of(alloc, spokes.len())?;
-    Ok(Fans { spokes, links })
+    true
+}
+
+// The corner of this edge, where so many edges behind it start at its point.
+fn crowded_corner(sorted: &[Edge], place: usize) -> Option<usize>
+    requires { AreInOrder sorted.now }
+    ensures { IfSome result (λ corner. (corner < length sorted.now) × IsFirstFrom sorted.now (point_at sorted.now corner) corner) }
+{
+    if !is_crowded(sorted, place) {
+        return None;
+    }
+    Some(first_from(sorted, start_of(sorted[place])))
 }
 
 // Whether so many edges behind this one start at its point.
-fn is_crowded(sorted: &[Edge], place: usize) -> bool {
+fn is_crowded(sorted: &[Edge], place: usize) -> bool
+    ensures { OnTrue result (place < length sorted.now) }
+{
     if sorted.len() <= place || sorted.len() - place <= MANY {
         return false;
     }
     starts_at(sorted[place + MANY], start_of(sorted[place]))
 }
 
-// Appends the edges that start at the point of this one, from it on, and answers where they end.
+// The edges that start at the point of this one, clockwise from the way straight up on.
+fn spokes_from<A: Allocator>(
+    alloc: A,
+    sorted: &[Edge],
+    corner: usize,
+) -> Result<Vec<Spoke, A>, AllocError>
+    requires inside { corner < length sorted.now }
+    requires order { AreInOrder sorted.now }
+    requires first { IsFirstFrom sorted.now (point_at sorted.now corner) corner }
+    ensures { IfOk result (λ spokes. AreAllFrom sorted.now (point_at sorted.now corner) (places spokes.items)) }
+{
+    let mut spokes = Vec::new(alloc);
+    append_spokes(sorted, corner, &mut spokes)?;
+    spokes.sort_unstable_by(|one: &Spoke, other: &Spoke| -> Ordering {
+        compare_spokes(*one, *other)
+    });
+    Ok(spokes)
+}
+
+// Appends the edges that start at the point of this one, in order.
 fn append_spokes<A: Allocator>(
     sorted: &[Edge],
     corner: usize,
     spokes: &mut Vec<Spoke, A>,
-) -> Result<usize, AllocError> {
-    for place in corner..sorted.len() {
-        let edge = sorted[place];
-        if !starts_at(edge, start_of(sorted[corner])) {
-            return Ok(place);
-        }
-        let way = vector_along(edge);
-        spokes.push(Spoke { corner, place, way })?;
+) -> Result<(), AllocError>
+    requires inside { corner < length sorted.now }
+    requires order { AreInOrder sorted.now }
+    requires first { IsFirstFrom sorted.now (point_at sorted.now corner) corner }
+    requires none { spokes.old.items ≡ [] }
+    ensures { OnOk result (AreAllFrom sorted.now (point_at sorted.now corner) (places spokes.new.items)) }
+{
+    let at = start_of(sorted[corner]);
+    let mut place = corner;
+    while place < sorted.len() && starts_at(sorted[place], at) {
+        let way = vector_along(sorted[place]);
+        spokes.push(Spoke { place, way })?;
+        place += 1;
     }
-    Ok(sorted.len())
+    Ok(())
 }
 
-// At first the link of each spoke goes to the next one.
-fn links_of<A: Allocator>(alloc: A, count: usize) -> Result<Vec<usize, A>, AllocError> {
+/// At first the link of each spoke goes to the next one. Where a spoke is walked, its link goes to a later one, and all before
+/// that are walked.
+pub fn links_of<A: Allocator + Copy>(
+    alloc: A,
+    fans: &Fans<A>,
+) -> Result<Vec<usize, A>, AllocError> {
+    let count = fans.spokes.len();
     let mut links = Vec::with_capacity(alloc, count)?;
     for spoke in 0..count {
         links.push(spoke + 1)?;
@@ -98,12 +193,8 @@ fn links_of<A: Allocator>(alloc: A, count: usize) -> Result<Vec<usize, A>, Alloc
     Ok(links)
 }
 
-// In which order spokes stand: by their points, clockwise at each, and those of one way by their places.
+// In which order the spokes of a fan stand: clockwise, and those of one way by their places.
 fn compare_spokes(one: Spoke, other: Spoke) -> Ordering {
-    let points = one.corner.cmp(&other.corner);
-    if points != Ordering::Equal {
-        return points;
-    }
     let turns = compare_ways(one.way, other.way);
     if turns != Ordering::Equal {
         return turns;
@@ -133,11 +224,12 @@ fn half_of(way: Vector) -> Half {
 
 /// The place of an edge to go on along, of those that aren't walked yet and start at this point. The edges are in order, and
 /// `first` of them start before the point. It is the one that turns furthest left, as `leftmost` says. Where a fan tells it,
-/// that is tried, and no clause says it.
+/// and the first one clockwise from the way back is walked, that is tried, and no clause says it.
 pub fn next_edge<A: Allocator>(
     sorted: &[Edge],
     used: &[bool],
-    fans: &mut Fans<A>,
+    fans: &Fans<A>,
+    links: &mut [usize],
     back: Point,
     at: Point,
     first: usize,
@@ -145,12 +237,14 @@ pub fn next_edge<A: Allocator>(
     requires order { AreInOrder sorted.now }
     requires first { IsFirstFrom sorted.now at first }
     requires size { length used.now ≡ length sorted.now }
-    ensures { MatchOption result (NoneLeaves sorted.now used.now at) (λ place. Leaves sorted.now used.now at place) }
+    requires fans { AreFans sorted.now fans.now.spokes.items fans.now.fans.items }
+    ensures leaves { MatchOption result (NoneLeaves sorted.now used.now at) (λ place. Leaves sorted.now used.now at place) }
+    ensures takes { AreBorders sorted.now → TakesFirst sorted.now used.now back at result }
 {
-    if fans.spokes.is_empty() {
+    if fans.fans.is_empty() {
         return leftmost(sorted, used, back, at, first);
     }
-    next_by_fan(sorted, used, fans, back, at, first)
+    next_by_fan(sorted, used, fans, links, back, at, first)
 }
 
 // The same where some point has a fan. Hardly any edges have one, so this stands apart.
@@ -159,7 +253,8 @@ pub fn next_edge<A: Allocator>(
 fn next_by_fan<A: Allocator>(
     sorted: &[Edge],
     used: &[bool],
-    fans: &mut Fans<A>,
+    fans: &Fans<A>,
+    links: &mut [usize],
     back: Point,
     at: Point,
     first: usize,
@@ -167,59 +262,122 @@ fn next_by_fan<A: Allocator>(
     requires order { AreInOrder sorted.now }
     requires first { IsFirstFrom sorted.now at first }
     requires size { length used.now ≡ length sorted.now }
-    ensures { MatchOption result (NoneLeaves sorted.now used.now at) (λ place. Leaves sorted.now used.now at place) }
+    requires fans { AreFans sorted.now fans.now.spokes.items fans.now.fans.items }
+    ensures leaves { MatchOption result (NoneLeaves sorted.now used.now at) (λ place. Leaves sorted.now used.now at place) }
+    ensures takes { AreBorders sorted.now → TakesFirst sorted.now used.now back at result }
 {
-    if let Some(place) = told_by_fan(sorted, used, fans, back, at, first) {
+    let Some(fan) = fan_at(&fans.fans, first) else {
+        return leftmost(sorted, used, back, at, first);
+    };
+    let spokes = &fans.spokes[fan.start..fan.end];
+    let still = first_behind(spokes, vector_between(at, at));
+    let turn = first_around(spokes, vector_between(at, back), still);
+    if !is_told(sorted, spokes, back, at, turn) {
+        return leftmost(sorted, used, back, at, first);
+    }
+    let place = place_of(spokes, turn);
+    if leaves(sorted, used, at, place) {
         return Some(place);
+    }
+    let parts = parts_from(fan, turn, still);
+    if let Some(later) = next_clockwise(used, &fans.spokes, links, parts) {
+        if leaves(sorted, used, at, later) {
+            return Some(later);
+        }
     }
     leftmost(sorted, used, back, at, first)
 }
 
-// The place of that edge, where the point has a fan.
-fn told_by_fan<A: Allocator>(
-    sorted: &[Edge],
-    used: &[bool],
-    fans: &mut Fans<A>,
-    back: Point,
-    at: Point,
-    first: usize,
-) -> Option<usize>
-    requires size { length used.now ≡ length sorted.now }
-    ensures { IfSome result (λ place. Leaves sorted.now used.now at place) }
+// The fan of this corner.
+fn fan_at(fans: &[Fan], corner: usize) -> Option<Fan>
+    ensures { IfSome result (λ fan. Contains fans.now fan × (fan.corner ≡ corner)) }
 {
-    if !is_crowded(sorted, first) {
-        return None;
-    }
-    let place = next_clockwise(fans, used, first, at, back)?;
-    if leaves(sorted, used, at, place) {
-        return Some(place);
+    let number = fans.partition_point(|fan| fan.corner < corner);
+    if number < fans.len() && fans[number].corner == corner {
+        return Some(fans[number]);
     }
     None
+}
+
+// The first spoke clockwise from the way back: one behind that way, or else from the way straight up on. Those from `still` on go
+// nowhere, and come last.
+fn first_around(spokes: &[Spoke], back: Vector, still: usize) -> usize {
+    let turn = first_behind(spokes, back);
+    if turn < still { turn } else { 0 }
+}
+
+// How many spokes of a fan stand before those that go this way or come behind it.
+fn first_behind(spokes: &[Spoke], way: Vector) -> usize {
+    spokes.partition_point(|spoke| compare_ways(spoke.way, way) == Ordering::Less)
+}
+
+// Whether the way back lies between this spoke and the one before it, around. Or some edge ends where it starts.
+fn is_told(sorted: &[Edge], spokes: &[Spoke], back: Point, at: Point, spoke: usize) -> bool
+    requires { All (λ place. place < length sorted.now) (places spokes.now) }
+    ensures { OnTrue result ((spoke < length (places spokes.now)) × IsTold sorted.now (places spokes.now) back at spoke) }
+{
+    if spokes.len() <= spoke {
+        return false;
+    }
+    let first = end_of_spoke(sorted, spokes, 0);
+    let last = end_of_spoke(sorted, spokes, spokes.len() - 1);
+    if last.x == at.x && last.y == at.y {
+        return true;
+    }
+    if !comes_first(at, first, first, back) {
+        return true;
+    }
+    if spoke == 0 {
+        return !comes_first(at, first, back, last);
+    }
+    if comes_first(at, first, back, end_of_spoke(sorted, spokes, spoke - 1)) {
+        return false;
+    }
+    !comes_first(at, first, end_of_spoke(sorted, spokes, spoke), back)
+}
+
+// Where the edge of this spoke ends.
+fn end_of_spoke(sorted: &[Edge], spokes: &[Spoke], spoke: usize) -> Point
+    requires inside { All (λ place. place < length sorted.now) (places spokes.now) }
+    requires spoke { spoke < length spokes.now }
+    ensures { result ≡ end_at sorted.now (places spokes.now) spoke }
+{
+    end_of(sorted[place_of(spokes, spoke)])
+}
+
+// The place of its edge.
+fn place_of(spokes: &[Spoke], spoke: usize) -> usize
+    requires { spoke < length spokes.now }
+    ensures { result ≡ get_or (places spokes.now) spoke 0 }
+{
+    spokes[spoke].place
 }
 
 // Whether the edge at this place isn't walked yet, and starts at the point.
 fn leaves(sorted: &[Edge], used: &[bool], at: Point, place: usize) -> bool
     requires size { length used.now ≡ length sorted.now }
-    ensures { OnTrue result (Leaves sorted.now used.now at place) }
+    ensures { MatchBool result (Leaves sorted.now used.now at place) (¬ (Leaves sorted.now used.now at place)) }
 {
     place < sorted.len() && !used[place] && starts_at(sorted[place], at)
 }
 
-// The place of the first spoke clockwise from the way back, of those of this corner that aren't walked: one behind that way, or
-// else from the way straight up on. One that goes nowhere comes last.
-fn next_clockwise<A: Allocator>(
-    fans: &mut Fans<A>,
+// The spokes of a fan in the order in which a walk takes them, by their numbers among all: from this one on, around, and then
+// those that go nowhere.
+fn parts_from(fan: Fan, turn: usize, still: usize) -> [(usize, usize); 3] {
+    let from = fan.start.saturating_add(turn);
+    let moving = fan.start.saturating_add(still);
+    [(from, moving), (fan.start, from), (moving, fan.end)]
+}
+
+// The place of the first spoke of these parts that isn't walked.
+fn next_clockwise(
     used: &[bool],
-    corner: usize,
-    at: Point,
-    back: Point,
+    spokes: &[Spoke],
+    links: &mut [usize],
+    parts: [(usize, usize); 3],
 ) -> Option<usize> {
-    let start = fans.spokes.partition_point(|spoke| spoke.corner < corner);
-    let end = fans.spokes.partition_point(|spoke| spoke.corner <= corner);
-    let turn = first_behind(&fans.spokes, corner, vector_between(at, back));
-    let still = first_behind(&fans.spokes, corner, vector_between(at, at));
-    for (from, to) in [(turn, still), (start, turn), (still, end)] {
-        let found = next_between(fans, used, from, to);
+    for (from, to) in parts {
+        let found = next_between(used, spokes, links, from, to);
         if found.is_some() {
             return found;
         }
@@ -227,31 +385,21 @@ fn next_clockwise<A: Allocator>(
     None
 }
 
-// How many spokes stand before those of this corner that go this way or come behind it.
-fn first_behind(spokes: &[Spoke], corner: usize, way: Vector) -> usize {
-    spokes.partition_point(|spoke| stands_before(*spoke, corner, way))
-}
-
-// Whether the spoke stands before those of this corner that go this way or come behind it.
-fn stands_before(spoke: Spoke, corner: usize, way: Vector) -> bool {
-    spoke.corner < corner
-        || (spoke.corner == corner && compare_ways(spoke.way, way) == Ordering::Less)
-}
-
 // The place of the first spoke from the one number on, and before the other, that isn't walked.
-fn next_between<A: Allocator>(
-    fans: &mut Fans<A>,
+fn next_between(
     used: &[bool],
+    spokes: &[Spoke],
+    links: &mut [usize],
     start: usize,
     end: usize,
 ) -> Option<usize> {
     let mut spoke = start;
     // Those from `start` on, and before this one, are walked.
-    while spoke < end && is_walked(&fans.spokes, used, spoke) {
-        spoke = next_link(fans, used, spoke).max(spoke + 1);
+    while spoke < end && is_walked(spokes, used, spoke) {
+        spoke = next_link(used, spokes, links, spoke).max(spoke + 1);
     }
-    if spoke < end && spoke < fans.spokes.len() {
-        return Some(fans.spokes[spoke].place);
+    if spoke < end && spoke < spokes.len() {
+        return Some(spokes[spoke].place);
     }
     None
 }
@@ -267,13 +415,13 @@ fn is_walked(spokes: &[Spoke], used: &[bool], spoke: usize) -> bool {
 
 // The link of a spoke that is walked, put on to that of the next one where this is walked too: so what lies between is passed by
 // half as many links the next time.
-fn next_link<A: Allocator>(fans: &mut Fans<A>, used: &[bool], spoke: usize) -> usize {
-    if fans.links.len() <= spoke {
+fn next_link(used: &[bool], spokes: &[Spoke], links: &mut [usize], spoke: usize) -> usize {
+    if links.len() <= spoke {
         return spoke;
     }
-    let next = fans.links[spoke];
-    if next < fans.links.len() && is_walked(&fans.spokes, used, next) {
-        fans.links[spoke] = fans.links[next];
+    let next = links[spoke];
+    if next < links.len() && is_walked(spokes, used, next) {
+        links[spoke] = links[next];
     }
-    fans.links[spoke]
+    links[spoke]
 }

@@ -6,6 +6,7 @@ ghost use Rattle.i_tree.specs.declared.Refusal.TheVariants.{OutOfMemory};
 ghost use Rattle.plane.specs.declared.point.Point.{Point};
 ghost use Rattle.overlay.specs.Contours.Outlines.{AreOutlines, outline};
 ghost use Rattle.overlay.specs.Contours.Rings.{AreContours};
+ghost use Rattle.overlay.specs.Sides.{AreBorders, KeepSides};
 ghost use Rattle.plane.specs.Lists.{Extends};
 ghost use Rattle.noding.specs.Offsets.{offsets};
 ghost use Rattle.noding.specs.Windings.{IsClosed};
@@ -33,8 +34,9 @@ mod walk;
 /// edges. The edges of a ring go from each of its points to the next one, and from the last one to the first; that of a ring
 /// of one point goes from it to itself. Each edge is that of one ring, and no ring visits a point twice.
 ///
-/// Where several edges start at a point, a ring goes on along the one that turns furthest left, so that rings which have their
-/// inside on the left touch, and don't cross. This is tried, and no clause says it.
+/// Where several edges start at a point, a ring goes on along the one that turns furthest left. So where the edges meet only at
+/// common ends, and wind once around a point or not at all, any closed list of some of them winds as often on the left of each
+/// edge of a ring (`KeepSides`): rings which have their inside on the left touch, and don't cross.
 ///
 /// It is refused for want of memory alone, and leaves `points` and `ring_ends` as they were then. The memory is that of their
 /// allocator.
@@ -46,7 +48,8 @@ pub fn contours<A: Allocator + Copy>(
     requires { IsClosed edges.now }
     ensures ok { OnOk result ((rings : List (List Point)) × AreContours edges.now rings
         × (points.new.items ≡ points.old.items ++ flat_map (λ ring. ring) rings)
-        × (ring_ends.new.items ≡ ring_ends.old.items ++ offsets (length points.old.items) rings)) }
+        × (ring_ends.new.items ≡ ring_ends.old.items ++ offsets (length points.old.items) rings)
+        × (AreBorders edges.now → KeepSides edges.now rings)) }
     ensures err { OnErr result ((points.new.items ≡ points.old.items) × (ring_ends.new.items ≡ ring_ends.old.items)) }
     ensures refused { IfErr result (λ cause. cause ≡ OutOfMemory) }
 {
@@ -63,7 +66,8 @@ pub fn contours_in_place<A: Allocator + Copy>(
     requires { IsClosed edges.items }
     ensures ok { OnOk result ((rings : List (List Point)) × AreContours edges.items rings
         × (points.new.items ≡ points.old.items ++ flat_map (λ ring. ring) rings)
-        × (ring_ends.new.items ≡ ring_ends.old.items ++ offsets (length points.old.items) rings)) }
+        × (ring_ends.new.items ≡ ring_ends.old.items ++ offsets (length points.old.items) rings)
+        × (AreBorders edges.items → KeepSides edges.items rings)) }
     ensures err { OnErr result ((points.new.items ≡ points.old.items) × (ring_ends.new.items ≡ ring_ends.old.items)) }
     ensures refused { IfErr result (λ cause. cause ≡ OutOfMemory) }
 {
@@ -121,7 +125,8 @@ fn append_all<A: Allocator + Copy>(
     requires { IsClosed edges.items }
     ensures ok { OnOk result ((rings : List (List Point)) × AreContours edges.items rings
         × (points.new.items ≡ points.old.items ++ flat_map (λ ring. ring) rings)
-        × (ring_ends.new.items ≡ ring_ends.old.items ++ offsets (length points.old.items) rings)) }
+        × (ring_ends.new.items ≡ ring_ends.old.items ++ offsets (length points.old.items) rings)
+        × (AreBorders edges.items → KeepSides edges.items rings)) }
     ensures err { OnErr result (Extends points.old.items points.new.items
         × Extends ring_ends.old.items ring_ends.new.items) }
 {

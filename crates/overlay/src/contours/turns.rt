@@ -2,7 +2,7 @@
 
 ghost use Rattle.std.specs.Prelude.{◌≡◌, ◌<◌, pos, ◌<ℤ◌, IfSome, MatchBool, MatchOption, length};
 ghost use Rattle.overlay.specs.Contours.Order.{AreInOrder, IsFirstFrom};
-ghost use Rattle.overlay.specs.Contours.Turns.{ComesBefore, IsBetter, IsLeft, IsLeftmost, NoneLeaves, direction, dot};
+ghost use Rattle.overlay.specs.Contours.Turns.{ComesBefore, IsBetter, IsLeft, IsLeftmost, NoneLeaves, direction, direction_between, dot};
 ghost use Rattle.plane.specs.Ends.{start_of, end_of};
 
 use plane::edge::{Edge, end_of, start_of};
@@ -56,6 +56,15 @@ pub fn starts_at(edge: Edge, at: Point) -> bool
     ensures { MatchBool result (start_of edge ≡ at) (¬ (start_of edge ≡ at)) }
 {
     edge.x0 == at.x && edge.y0 == at.y
+}
+
+/// Whether, clockwise from the way to the point `back`, the way to the one point comes before that to the other.
+pub fn comes_first(at: Point, back: Point, one: Point, other: Point) -> bool
+    ensures { let before = ComesBefore (direction_between at back) (direction_between at one) (direction_between at other) in
+        MatchBool result before (¬ before) }
+{
+    let to_one = vector_between(at, one);
+    comes_before(vector_between(at, back), to_one, vector_between(at, other))
 }
 
 /// Whether, clockwise from the way back, the one vector comes before the other.

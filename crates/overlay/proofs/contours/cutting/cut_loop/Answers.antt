@@ -1,4 +1,4 @@
-use Rattle.std.proofs.Common.{◌≡◌, ◌++◌, ◌∷◌, [], ◌+◌, ◌-◌, ◌<◌, ℕ, List, IsPermutation, drop, get_or, length, map, take, sym, ap, ◌∙◌, subst, arith}
+use Rattle.std.proofs.Common.{◌≡◌, ◌++◌, ◌∷◌, [], ◌+◌, ◌-◌, ◌<◌, ℕ, zero, suc, List, IsPermutation, drop, get_or, length, map, take, refl, sym, ap, ◌∙◌, subst, arith}
 use Rattle.std.specs.List.{flat_map}
 use Rattle.std.proofs.lemmas.List.{get_or_read, length-map, take_rest}
 use Rattle.std.proofs.lemmas.List.Sorted.{IsPermutation-refl}
@@ -9,6 +9,12 @@ use Rattle.overlay.specs.Contours.Walks.{IsMarked, IsOff, path}
 use Rattle.overlay.proofs.ContourLemmas.Rings.{AreAppended-none, AreAppended-one, IsMarked-take, IsOff-mark, IsOff-take, loop-cut, ring-from}
 use Rattle.overlay.proofs.contours.cutting.cut_loop.Goals.{else-mark-len-via-then-mark-len+else-index-corner, else-mark-len-via-else-mark-len}
 use Rattle.overlay.proofs.contours.cutting.cut_loop.Goals as goal
+
+-- the walk begins where it did
+first-stays : (stack : List ℕ) (mark corner : ℕ) → mark < length stack → get_or stack mark 0 ≡ corner → get_or (take mark stack ++ corner ∷ []) 0 0 ≡ get_or (stack ++ corner ∷ []) 0 0
+first-stays [] mark corner inside at = absurd (omega (arith, inside))
+first-stays (first ∷ others) zero corner inside at = sym at
+first-stays (first ∷ others) (suc mark) corner inside at = refl
 
 pub returns-in_ok-append_ring-clause-ok : goal.returns-in_ok-append_ring-clause-ok
 returns-in_ok-append_ring-clause-ok g c =
@@ -32,17 +38,20 @@ returns-in_ok-append_ring-clause-ok g c =
     let ends : c.append_ring.new.ring_ends.items ≡ c.args.ring_ends.now.items ++ (length c.args.points.now.items + length ring) ∷ [] =
     ends_are ∙ ap (λ (n : ℕ). c.args.ring_ends.now.items ++ (length c.args.points.now.items + n) ∷ []) size in
     let walk = c.requires.walk in
-    let (moved, marked, off) = subst (λ (left : List ℕ). IsPermutation (flat_map ring_edges (ring ∷ []) ++ path sorted left corner) (path sorted stack corner) × IsMarked sorted marks left × IsOff left corner)
+    let (moved, marked, off, begins) = subst (λ (left : List ℕ). IsPermutation (flat_map ring_edges (ring ∷ []) ++ path sorted left corner) (path sorted stack corner) × IsMarked sorted marks left × IsOff left corner
+    × (get_or (left ++ corner ∷ []) 0 0 ≡ get_or (stack ++ corner ∷ []) 0 0))
     (sym c.truncate.ensures.items) (
       loop-cut sorted marks stack walk corner mark inside at,
       IsMarked-take sorted marks stack walk mark (omega (arith, inside)),
       subst (λ (place : ℕ). IsOff (take mark stack) place) at (IsOff-take sorted marks stack walk mark inside),
+      first-stays stack mark corner inside at,
     ) in (
       ring ∷ [],
       AreAppended-one ring c.args.points.now.items c.append_ring.new.points.items c.args.ring_ends.now.items c.append_ring.new.ring_ends.items (ring-from sorted marks stack walk mark inside) points ends,
       moved,
       marked,
       off,
+      begins,
     )
 
 pub returns-else-mark-len-clause-ok : goal.returns-else-mark-len-clause-ok
@@ -66,4 +75,5 @@ returns-else-mark-len-clause-ok g c =
             let past = w.if-mark-len.false in
             omega (arith, past, told, below)
       ]),
+      refl,
     )

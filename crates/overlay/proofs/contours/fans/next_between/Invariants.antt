@@ -3,4 +3,4 @@ use Rattle.overlay.proofs.contours.fans.next_between.Given as goal
 
 -- the spokes that are left
 abbrev pub decreases-loop-spoke : goal.decreases-loop-spoke
-decreases-loop-spoke g l = l.end - l.spoke
+decreases-loop-spoke l = l.end - l.spoke
