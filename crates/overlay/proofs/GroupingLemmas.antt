@@ -1,11 +1,17 @@
 pub mod Bags
+pub mod Before
 pub mod Begins
 pub mod Callers
 pub mod Corners
 pub mod Edges
 pub mod Filling
 pub mod Grouped
+pub mod Highest
+pub mod Homes
+pub mod Nested
 pub mod Outlined
 pub mod Placed
 pub mod Sides
 pub mod Sweep
+pub mod Swept
+pub mod Told

@@ -123,7 +123,7 @@ start_height x0 x1 y0 y1 w =
     (times (number y0) (times (minus (number x1) (number x0)) (number w)))
     (omega arith)
 
-height-start : (edge other : Edge) → height_by_runs edge other edge.x0 ≡ (edge.y0 *ℤ (run edge *ℤ run other))
+pub height-start : (edge other : Edge) → height_by_runs edge other edge.x0 ≡ (edge.y0 *ℤ (run edge *ℤ run other))
 height-start edge other = start_height edge.x0 edge.x1 edge.y0 edge.y1 (run other)
 
 -- and of another that starts at the same x

@@ -42,7 +42,7 @@ abbrev pub Told : List Edge → Option Edge → Type 0
 Told edges None = (other : Edge) → Contains edges other → ¬ (other.x1 ≢ other.x0)
 Told edges (Some first) = IsFirst edges first
 
-abbrev as_piece : Edge → Piece
+abbrev pub as_piece : Edge → Piece
 as_piece edge = record { edge = rightwards edge; subject = pos 0; clip = pos 0 }
 
 -- ---- an edge that begins further right

@@ -7,7 +7,8 @@ use Rattle.std.proofs.lemmas.List.Quantifiers.{position-Some}
 use Rattle.std.proofs.lemmas.List.Sorted.{All-permutation, IsPermutation-map, IsPermutation-refl, IsPermutation-sym}
 use Rattle.plane.specs.declared.point.Point.{Point}
 use Rattle.overlay.specs.Contours.Rings.{AreContours, IsRing, ring_edges}
-use Rattle.overlay.specs.Grouping.{AreHomes, AreWithin, is_outer, placed_from, placed_polygons, rank, ring_in}
+use Rattle.overlay.specs.Grouping.{AreHomes, AreWithin, ShareHomes, is_outer, placed_from, placed_polygons, rank, ring_in}
+use Rattle.overlay.specs.Nesting.{AreNested}
 use Rattle.overlay.specs.Polygons.{BoundsSome, IsPolygon, is_counterclockwise, rings_of as rings_of_all}
 use Rattle.overlay.specs.Rings.{AreEnds, edges_in, rings_of}
 use Rattle.overlay.specs.declared.grouping.order.PlacedRing.{PlacedRing}
@@ -15,6 +16,7 @@ use Rattle.overlay.proofs.EachRing.{rings-size}
 use Rattle.overlay.proofs.GroupingLemmas.Bags.{IsPermutation-flat_map}
 use Rattle.overlay.proofs.GroupingLemmas.Begins.{no-rings}
 use Rattle.overlay.proofs.GroupingLemmas.Grouped.{are-polygons, rings-are}
+use Rattle.overlay.proofs.GroupingLemmas.Nested.{order-nested}
 use Rattle.overlay.proofs.GroupingLemmas.Placed.{begin-outside, placed-marks, placed-rings, placed-within}
 
 -- ---- marks
@@ -32,11 +34,16 @@ none-found : (found : Option ℕ) → ((place : ℕ) → found ≡ Some place �
 none-found None never = refl
 none-found (Some place) never = absurd (never place refl)
 
-pub no-contours : (rings : List (List Point)) → All IsRing rings → BoundsSome (flat_map ring_edges rings) → (are_outer : List Bool) → are_outer ≡ map is_counterclockwise rings → (found : Option ℕ) → found ≡ position (λ is. is) are_outer
-    → ((place : ℕ) → found ≡ Some place → ⊥) → AreContours (flat_map ring_edges rings) []
-no-contours rings each bounds are_outer marks found told never =
-    subst (AreContours (flat_map ring_edges rings)) (no-rings rings each bounds (sym (ap (λ (list : List Bool). position (λ is. is) list) marks) ∙ sym told ∙ none-found found never))
-    (record { each = each; all = IsPermutation-refl (flat_map ring_edges rings) })
+module _ (rings : List (List Point)) (each : All IsRing rings) (bounds : BoundsSome (flat_map ring_edges rings)) (are_outer : List Bool) (marks : are_outer ≡ map is_counterclockwise rings) (found : Option ℕ) (told : found ≡ position (λ is. is) are_outer)
+    (never : (place : ℕ) → found ≡ Some place → ⊥) where
+  none-there : rings ≡ []
+  none-there = no-rings rings each bounds (sym (ap (λ (list : List Bool). position (λ is. is) list) marks) ∙ sym told ∙ none-found found never)
+
+  pub no-contours : AreContours (flat_map ring_edges rings) []
+  no-contours = subst (AreContours (flat_map ring_edges rings)) none-there (record { each = each; all = IsPermutation-refl (flat_map ring_edges rings) })
+
+  pub none-moved : IsPermutation [] rings
+  none-moved = subst (λ (list : List (List Point)). IsPermutation list rings) none-there (IsPermutation-refl rings)
 
 -- ---- rings in order
 
@@ -49,10 +56,20 @@ module _ (points : List Point) (ends : List ℕ) (are_outer : List Bool) (homes 
       are-polygons points order (begin-outside are_outer homes have ends (marks-size points ends are_outer marks) order moved rising)
       (All-permutation (λ (ring : PlacedRing). ring.is_hole ≡ not (is_counterclockwise (ring_in points ring))) (placed_from are_outer homes 0 0 ends) order moved (placed-marks are_outer homes points [] 0 0 ends refl marks))
 
-  rings-moved : IsPermutation (rings_of points 0 ends) (rings_of_all (placed_polygons points order))
+  pub rings-moved : IsPermutation (rings_of points 0 ends) (rings_of_all (placed_polygons points order))
   rings-moved =
       subst₂ (λ (one other : List (List Point)). IsPermutation one other) (placed-rings are_outer homes points 0 0 ends) (sym (rings-are points order))
       (IsPermutation-map (ring_in points) (placed_from are_outer homes 0 0 ends) order moved)
+
+  -- the polygons have all rings, each once
+  pub order-moved : IsPermutation (rings_of_all (placed_polygons points order)) (rings_of points 0 ends)
+  order-moved = IsPermutation-sym (rings_of points 0 ends) (rings_of_all (placed_polygons points order)) rings-moved
+
+  -- and each hole is of the polygon just below it
+  pub all-nested : are_outer ≡ map is_counterclockwise (rings_of points 0 ends) → AreHomes are_outer homes → IsNonDecreasingBy rank order → ShareHomes (rings_of points 0 ends) are_outer homes → AreNested (placed_polygons points order)
+  all-nested marks have rising share =
+      let size = marks-size points ends are_outer marks in
+      order-nested points ends are_outer homes order moved size have rising (begin-outside are_outer homes have ends size order moved rising) share rings-moved
 
   pub order-contours : All IsRing (rings_of points 0 ends) → AreContours (edges_in points ends) (rings_of_all (placed_polygons points order))
   order-contours each =

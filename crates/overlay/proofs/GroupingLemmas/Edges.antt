@@ -1,12 +1,13 @@
 -- The edges of a ring, from one of its points on, and the sides among them.
-use Rattle.std.proofs.Common.{◌≡◌, ◌<◌, ◌≤◌, ◌+◌, ◌++◌, [], ◌∷◌, ℕ, suc, Bool, true, false, cond, List, drop, get_or, length, refl, ap, ap₂, sym, subst, take, ◌∙◌, append_assoc, arith}
+use Rattle.std.proofs.Common.{◌≡◌, ◌<◌, ◌≤◌, ◌+◌, ◌++◌, [], ◌∷◌, ℕ, zero, suc, Bool, true, false, cond, List, drop, get_or, length, refl, ap, ap₂, sym, subst, take, ◌∙◌, append_assoc, arith}
 use Rattle.std.specs.Cmp.{IsStrictWeakOrder}
-use Rattle.std.specs.List.{between, flat_map}
+use Rattle.std.specs.List.{All, Contains, between, flat_map}
 use Rattle.std.specs.List.Sorted.{IsPermutation, IsSortedBy}
 use Rattle.std.specs.Ordering.{int_eq}
 use Rattle.std.proofs.lemmas.List.{at_drop_more, get_or-map, length-append, length-map}
 use Rattle.std.proofs.lemmas.List.Edits.{length-between}
 use Rattle.std.proofs.lemmas.List.Sorted.{All-permutation, IsPermutation-map}
+use Rattle.i_tree.proofs.RootLemmas.Lists.{Contains-here, Contains-there}
 use Rattle.plane.specs.declared.edge.Edge.{Edge}
 use Rattle.plane.specs.declared.point.Point.{Point}
 use Rattle.overlay.specs.declared.fill.pieces.Piece.{Piece}
@@ -19,11 +20,10 @@ use Rattle.plane.specs.Ends.{edge_between}
 use Rattle.noding.specs.Windings.{pieces}
 use Rattle.overlay.proofs.PieceLemmas.Begins.{begins_before, weak_order}
 use Rattle.overlay.proofs.PieceLemmas.Made.{sorted-order}
-use Rattle.overlay.specs.Grouping.{AreNumbered, AreSides, edges_from, pieces_of}
+use Rattle.overlay.specs.Grouping.{AreSides, IsSideOf, edges_from, no_side, pieces_of}
 use Rattle.overlay.specs.Rings.{AreEnds, edges_in, rings_of}
 use Rattle.overlay.specs.declared.grouping.sides.Side.{Side}
 use Rattle.overlay.proofs.EachRing.{edges_more}
-use Rattle.overlay.proofs.GroupingLemmas.Sweep.{no_side}
 
 along : (first : Point) (others : List Point) (behind : Point) → pieces (first ∷ (others ++ behind ∷ [])) ≡ edges_from (first ∷ others) behind
 along first [] behind = refl
@@ -38,6 +38,18 @@ edges_from-first (first ∷ others) = along first others first
 pub edges_from-more : (ring : List Point) (behind : Point) (place : ℕ) → place < length ring
     → edges_from (drop place ring) behind ≡ edge_between (ring_point ring place) (next_or (drop (place + 1) ring) behind) ∷ edges_from (drop (place + 1) ring) behind
 edges_from-more ring behind place inside = at_drop_more (λ (points : List Point). edges_from points behind) ring place _ inside
+
+-- each is one of them
+edges_from-at : (points : List Point) (behind : Point) (place : ℕ) → place < length points → Contains (edges_from points behind) (edge_between (ring_point points place) (next_or (drop (place + 1) points) behind))
+edges_from-at [] behind place within = absurd (omega (arith, within))
+edges_from-at (at ∷ points) behind zero within = Contains-here (edge_between at (next_or points behind)) (edges_from points behind)
+edges_from-at (at ∷ points) behind (suc place) within =
+    subst (λ (n : ℕ). Contains (edges_from (at ∷ points) behind) (edge_between (ring_point points place) (next_or (drop n (at ∷ points)) behind))) (let same : suc (place + 1) ≡ suc place + 1 = omega arith in same)
+    (Contains-there (edge_between at (next_or points behind)) (edges_from points behind) (edge_between (ring_point points place) (next_or (drop (place + 1) points) behind)) (edges_from-at points behind place (omega (arith, within))))
+
+pub edge_at-of : (ring : List Point) (place : ℕ) → place < length ring → Contains (ring_edges ring) (edge_between (ring_point ring place) (next_or (drop (place + 1) ring) (ring_point ring 0)))
+edge_at-of ring place within =
+    subst (λ (edges : List Edge). Contains edges (edge_between (ring_point ring place) (next_or (drop (place + 1) ring) (ring_point ring 0)))) (sym (edges_from-first ring)) (edges_from-at ring (ring_point ring 0) place within)
 
 -- ---- how many there are
 
@@ -103,10 +115,10 @@ sides-begin sides up =
     ap₂ (λ (one other : Piece). begins_before one other) (get_or-map (λ (side : Side). side.piece) sides (k + 1) no_side d (omega (arith, size, within))) (get_or-map (λ (side : Side). side.piece) sides k no_side d (omega (arith, size, within)))
     ∙ up k no_side from (omega (arith, size, within))))
 
-pub AreSides-sorted : (edges : List Edge) (count : ℕ) (sides sorted : List Side) → pieces_of sides ≡ turned Subject edges → AreNumbered count sides → IsPermutation sides sorted → BeginInOrder (pieces_of sorted)
-    → AreSides edges count sorted
-AreSides-sorted edges count sides sorted pieces numbered moved order = record {
+pub AreSides-sorted : (rings : List (List Point)) (sides sorted : List Side) → pieces_of sides ≡ turned Subject (flat_map ring_edges rings) → All (IsSideOf rings) sides → IsPermutation sides sorted → BeginInOrder (pieces_of sorted)
+    → AreSides rings sorted
+AreSides-sorted rings sides sorted pieces of moved order = record {
   pieces = subst (λ (list : List Piece). IsPermutation list (pieces_of sorted)) pieces (IsPermutation-map (λ (side : Side). side.piece) sides sorted moved);
   order = order;
-  numbered = All-permutation (λ (side : Side). side.ring < count) sides sorted moved numbered;
+  of = All-permutation (IsSideOf rings) sides sorted moved of;
 }

@@ -20,7 +20,7 @@ use Rattle.noding.specs.Windings.{IsClosed}
 use Rattle.overlay.proofs.KeptLemmas.First.{turned-same}
 use Rattle.overlay.proofs.PieceLemmas.Joined.{small-wider}
 use Rattle.overlay.proofs.PieceLemmas.Made.{AreTurned-all, IsTurned, joined-pieces, joined-weigh, stand-turned, turned-length}
-use Rattle.overlay.specs.Grouping.{AreSides, pieces_of}
+use Rattle.overlay.specs.Grouping.{pieces_of}
 use Rattle.overlay.specs.declared.grouping.sides.Side.{Side}
 
 -- ---- no two of them are of one edge
@@ -66,28 +66,28 @@ join-none pieces order distinct = record {
 differ-exchanged : (one other : Piece) → Differ one other → Differ other one
 differ-exchanged one other differ same = differ (sym same)
 
-pub AreFillPieces-sides : (edges : List Edge) (count : ℕ) (sides : List Side) → IsClosed edges → AreNoded edges → AreDistinct edges → AreSides edges count sides → length edges < 2 ^ 63 → AreFillPieces (pieces_of sides)
-AreFillPieces-sides edges count sides closed noded distinct of countable = record {
+pub AreFillPieces-sides : (edges : List Edge) (sides : List Side) → IsClosed edges → AreNoded edges → AreDistinct edges → IsPermutation (turned Subject edges) (pieces_of sides) → BeginInOrder (pieces_of sides) → length edges < 2 ^ 63 → AreFillPieces (pieces_of sides)
+AreFillPieces-sides edges sides closed noded distinct moved in_order countable = record {
   subject = edges;
   clip = [];
   closed = closed;
   clip_closed = λ test. refl;
   noded = subst AreNoded (sym (append-nil edges)) noded;
   are = joined-pieces edges [] (pieces_of sides) (pieces_of sides) stand alone;
-  order = of.order;
+  order = in_order;
   most = stand.most * length (pieces_of sides);
   weigh = joined-weigh stand.most (pieces_of sides) (pieces_of sides) stand.small alone;
   countable = stand.countable;
 }
   where
     turned_all : AreTurned edges [] (pieces_of sides)
-    turned_all = subst (λ (list : List Piece). IsPermutation list (pieces_of sides)) (sym (append-nil (turned Subject edges))) of.pieces
+    turned_all = subst (λ (list : List Piece). IsPermutation list (pieces_of sides)) (sym (append-nil (turned Subject edges))) moved
 
     few : length (pieces_of sides) < 2 ^ 63
-    few = let same = length_permutation (turned Subject edges) (pieces_of sides) of.pieces in let most = turned-length Subject edges in omega (arith, same, most, countable)
+    few = let same = length_permutation (turned Subject edges) (pieces_of sides) moved in let most = turned-length Subject edges in omega (arith, same, most, countable)
 
     stand : StandFor edges [] (pieces_of sides)
     stand = stand-turned edges [] (pieces_of sides) turned_all few
 
     alone : AreJoinOf (pieces_of sides) (pieces_of sides)
-    alone = join-none (pieces_of sides) of.order (AllPairs-permutation Differ differ-exchanged (turned Subject edges) (pieces_of sides) of.pieces (distinct-pieces edges distinct))
+    alone = join-none (pieces_of sides) in_order (AllPairs-permutation Differ differ-exchanged (turned Subject edges) (pieces_of sides) moved (distinct-pieces edges distinct))

@@ -35,7 +35,7 @@ offsets-map f start (list ∷ lists) =
 
 -- ---- which rings they have
 
-joined-from : (polygon rings : List PlacedRing) → flat_map (λ list. list) (polygons_from polygon rings) ≡ polygon ++ rings
+pub joined-from : (polygon rings : List PlacedRing) → flat_map (λ list. list) (polygons_from polygon rings) ≡ polygon ++ rings
 joined-from polygon [] = refl
 joined-from polygon (ring ∷ rings) = by (joined-from (polygon ++ ring ∷ []) rings) (joined-from (ring ∷ []) rings) ring.is_hole
   where
@@ -44,7 +44,7 @@ joined-from polygon (ring ∷ rings) = by (joined-from (polygon ++ ring ∷ []) 
     by joins begins true = joins ∙ append_assoc polygon (ring ∷ []) rings
     by joins begins false = ap (λ (list : List PlacedRing). polygon ++ list) begins
 
-joined-polygons : (rings : List PlacedRing) → flat_map (λ list. list) (polygons_of rings) ≡ rings
+pub joined-polygons : (rings : List PlacedRing) → flat_map (λ list. list) (polygons_of rings) ≡ rings
 joined-polygons [] = refl
 joined-polygons (ring ∷ rings) = joined-from (ring ∷ []) rings
 

@@ -37,7 +37,7 @@ rings-back before (ring ∷ rings) start is =
 
 -- ---- placed rings
 
-abbrev no_ring : PlacedRing
+abbrev pub no_ring : PlacedRing
 no_ring = record { home = 0; is_hole = false; start = 0; end = 0 }
 
 outer-inside : (are_outer : List Bool) (home : ℕ) → is_outer are_outer home ≡ true → home < length are_outer
@@ -87,7 +87,7 @@ module _ (are_outer : List Bool) (homes : List ℕ) where
       All-cons (λ (ring : PlacedRing). ring.is_hole ≡ not (is_counterclockwise (ring_in points ring))) _ _ (ap not here)
       (placed-marks points (done ++ runs ∷ []) (number + 1) end ends (let sum = length-append done (runs ∷ []) in omega (arith, is, sum)) (all ∙ sym (append_assoc done (runs ∷ []) others)))
 
-  placed-at : (number start : ℕ) (ends : List ℕ) (i : ℕ) (d : PlacedRing) → i < length ends
+  pub placed-at : (number start : ℕ) (ends : List ℕ) (i : ℕ) (d : PlacedRing) → i < length ends
       → ((get_or (placed_from are_outer homes number start ends) i d).home ≡ home_of are_outer homes (number + i)) × ((get_or (placed_from are_outer homes number start ends) i d).is_hole ≡ not (is_outer are_outer (number + i)))
   placed-at number start [] i d within = absurd (omega (arith, within))
   placed-at number start (end ∷ ends) zero d within =
@@ -98,25 +98,25 @@ module _ (are_outer : List Bool) (homes : List ℕ) where
       let (home, hole) = placed-at (number + 1) end ends i d (omega (arith, within)) in
       (home ∙ ap (λ (n : ℕ). home_of are_outer homes n) same, hole ∙ ap (λ (n : ℕ). not (is_outer are_outer n)) same)
 
-  placed-size : (number start : ℕ) (ends : List ℕ) → length (placed_from are_outer homes number start ends) ≡ length ends
+  pub placed-size : (number start : ℕ) (ends : List ℕ) → length (placed_from are_outer homes number start ends) ≡ length ends
   placed-size number start [] = refl
   placed-size number start (end ∷ ends) = ap (λ (n : ℕ). suc n) (placed-size (number + 1) end ends)
 
   module _ (have : AreHomes are_outer homes) where
-    home-outer : (ring : ℕ) → ring < length are_outer → is_outer are_outer (home_of are_outer homes ring) ≡ true
+    pub home-outer : (ring : ℕ) → ring < length are_outer → is_outer are_outer (home_of are_outer homes ring) ≡ true
     home-outer ring within = by (is_outer are_outer ring) refl
       where
         by : (t : Bool) → is_outer are_outer ring ≡ t → is_outer are_outer (cond t ring (get_or homes ring 0)) ≡ true
         by true e = e
         by false e = let size = have.size in have.outer ring 0 (omega (arith, size, within))
 
-    placed-homes : (number start : ℕ) (ends : List ℕ) → number + length ends ≤ length are_outer → All (λ ring. is_outer are_outer ring.home ≡ true) (placed_from are_outer homes number start ends)
+    pub placed-homes : (number start : ℕ) (ends : List ℕ) → number + length ends ≤ length are_outer → All (λ ring. is_outer are_outer ring.home ≡ true) (placed_from are_outer homes number start ends)
     placed-homes number start [] fits = All-nil _
     placed-homes number start (end ∷ ends) fits =
         All-cons (λ (ring : PlacedRing). is_outer are_outer ring.home ≡ true) _ _ (home-outer number (omega (arith, fits))) (placed-homes (number + 1) end ends (omega (arith, fits)))
 
     -- the outer ring of a home
-    outer-of : (ends : List ℕ) → length are_outer ≡ length ends → (order : List PlacedRing) → IsPermutation (placed_from are_outer homes 0 0 ends) order → (home : ℕ) → is_outer are_outer home ≡ true
+    pub outer-of : (ends : List ℕ) → length are_outer ≡ length ends → (order : List PlacedRing) → IsPermutation (placed_from are_outer homes 0 0 ends) order → (home : ℕ) → is_outer are_outer home ≡ true
         → (ring : PlacedRing) × Contains order ring × (rank ring ≡ home * 2)
     outer-of ends each order moved home is =
         let inside : home < length are_outer = outer-inside are_outer home is in

@@ -10,7 +10,7 @@ use Rattle.plane.specs.SweepLine.Line.{BeganBefore, IsSortedAt, JoinsAt, NoneCro
 use Rattle.overlay.specs.declared.fill.pieces.Piece.{Piece}
 use Rattle.overlay.specs.Fill.Sweep.{AreFillPieces, no_piece}
 use Rattle.overlay.proofs.KeptLemmas.Begun.{HasBegun, HasBegun-more, HasBegun-none, begin-last, begin-places, last-holds, piece_at, x_order}
-use Rattle.overlay.specs.Grouping.{pieces_of}
+use Rattle.overlay.specs.Grouping.{no_side, pieces_of}
 use Rattle.overlay.specs.declared.grouping.sides.Side.{Side}
 
 -- The first k of the pieces have begun.
@@ -25,10 +25,6 @@ HasCome-none pieces stored none = subst (HasCome pieces 0) (sym none) (record {
   begun = HasBegun-none pieces (piece_at pieces 0).edge.x0;
   upto = λ some. omega (arith, ints);
 })
-
--- a side in place of none
-abbrev pub no_side : Side
-no_side = record { piece = no_piece; ring = 0 }
 
 -- the side at a place, as a piece
 pub side-piece : (sides : List Side) (k : ℕ) → k < length sides → (get_or sides k no_side).piece ≡ piece_at (pieces_of sides) k

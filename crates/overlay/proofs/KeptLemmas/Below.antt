@@ -175,7 +175,14 @@ module _ (pieces : List Piece) (fill : AreFillPieces pieces) (k : ℕ) (within :
   front_not : (entry : Entry) → Contains (live joins.front) entry → ¬ (NotAbove (entry_at pieces k).0 entry) → ⊥
   front_not entry among above = above (λ greater. never_ordered (cmp_active entry.0 (entry_at pieces k).0) (front_below entry among) greater)
 
-  -- where there is none, nothing is below
+  -- where there is none, no piece is lower
+  pub none-lower : All (λ entry. ¬ (NotAbove (entry_at pieces k).0 entry)) (live stored) → (q : Piece) → Contains pieces q → is_over start q.edge ≡ true → is_lower_on start q.edge g.edge ≡ true → ⊥
+  none-lower all q among over lower =
+      let (j, less, is, stands_there) = lower-stands q among over lower in
+      let in_stored = subst (λ (entries : List Entry). Contains entries (entry_at pieces j)) (sym live_before) (Contains-append_left (live joins.front) (live joins.back) (entry_at pieces j) stands_there) in
+      front_not (entry_at pieces j) stands_there (All-contains (λ (entry : Entry). ¬ (NotAbove (entry_at pieces k).0 entry)) (live stored) (entry_at pieces j) all in_stored)
+
+  -- so nothing is below
   below-none : All (λ entry. ¬ (NotAbove (entry_at pieces k).0 entry)) (live stored) → below_of pieces g ≡ nothing
   below-none all =
       below-edges pieces fill g
@@ -183,10 +190,7 @@ module _ (pieces : List Piece) (fill : AreFillPieces pieces) (k : ℕ) (within :
     where
       by : (q : Piece) → Contains pieces q → is_over start q.edge ≡ true → (t : Bool) → is_lower_on start q.edge g.edge ≡ t → is_lower_on start q.edge g.edge ≡ false
       by q among over false e = e
-      by q among over true e =
-          let (j, less, is, stands_there) = lower-stands q among over e in
-          let in_stored = subst (λ (entries : List Entry). Contains entries (entry_at pieces j)) (sym live_before) (Contains-append_left (live joins.front) (live joins.back) (entry_at pieces j) stands_there) in
-          absurd (front_not (entry_at pieces j) stands_there (All-contains (λ (entry : Entry). ¬ (NotAbove (entry_at pieces k).0 entry)) (live stored) (entry_at pieces j) all in_stored))
+      by q among over true e = absurd (none-lower all q among over e)
 
   -- else what is above it
   module _ (found : Entry) (front back : List Entry) (parts : live stored ≡ front ++ found ∷ back) (last : NotAbove (entry_at pieces k).0 found) (others : All (λ entry. ¬ (NotAbove (entry_at pieces k).0 entry)) back) where
@@ -197,7 +201,7 @@ module _ (pieces : List Piece) (fill : AreFillPieces pieces) (k : ℕ) (within :
         by (inl here) = here
         by (inr there) = absurd (last (back_above found there))
 
-    found_of : IsEntryOf pieces k found
+    pub found_of : IsEntryOf pieces k found
     found_of =
         All-contains (IsEntryOf pieces k) (live stored) found (All-filter (is_live_at start) (IsEntryOf pieces k) stored has.of)
         (subst (λ (entries : List Entry). Contains entries found) (sym parts) (Contains-middle front found back))
@@ -208,7 +212,7 @@ module _ (pieces : List Piece) (fill : AreFillPieces pieces) (k : ℕ) (within :
     abbrev p : Piece
     p = piece_at pieces i
 
-    i_inside : i < length pieces
+    pub i_inside : i < length pieces
     i_inside = let less = found_of.below in omega (arith, less, within)
 
     p_edge : found.0.edge ≡ p.edge
@@ -225,7 +229,7 @@ module _ (pieces : List Piece) (fill : AreFillPieces pieces) (k : ℕ) (within :
     p_from : p.edge.x0 ≤ℤ start
     p_from = x_order pieces fill i k found_of.below within
 
-    p_over : is_over start p.edge ≡ true
+    pub p_over : is_over start p.edge ≡ true
     p_over = over_true start p.edge p_from p_live
 
     g_over : is_over start g.edge ≡ true
@@ -239,7 +243,7 @@ module _ (pieces : List Piece) (fill : AreFillPieces pieces) (k : ℕ) (within :
         by (inl lower) = lower
         by (inr lower) = absurd (never_both (is_lower_on start r.edge q.edge) lower not_other)
 
-    p_lower : is_lower_on start p.edge g.edge ≡ true
+    pub p_lower : is_lower_on start p.edge g.edge ≡ true
     p_lower =
         one_lower p g (held pieces fill i i_inside) g_held (differ i k found_of.below within) p_over g_over
         (subst (λ (e : Edge). is_lower_on start g.edge e ≡ false) p_edge (front_upto found found_before))
@@ -262,7 +266,7 @@ module _ (pieces : List Piece) (fill : AreFillPieces pieces) (k : ℕ) (within :
       ]
     ]
 
-    highest : (q : Piece) → Contains pieces q → is_over start q.edge ≡ true → is_lower_on start q.edge g.edge ≡ true → (q ≡ p) ⊎ (is_lower_on start q.edge p.edge ≡ true)
+    pub highest : (q : Piece) → Contains pieces q → is_over start q.edge ≡ true → is_lower_on start q.edge g.edge ≡ true → (q ≡ p) ⊎ (is_lower_on start q.edge p.edge ≡ true)
     highest q among over lower =
         let (j, less, is, stands_there) = lower-stands q among over lower in
         let in_stored = subst (λ (entries : List Entry). Contains entries (entry_at pieces j)) (sym live_before ∙ parts) (Contains-append_left (live joins.front) (live joins.back) (entry_at pieces j) stands_there) in

@@ -68,7 +68,7 @@ turned-same one other same =
 -- ---- a point of an edge, just behind its start
 
 -- an edge turned rightwards that goes on along x isn't vertical
-turned-sloped : (edge : Edge) → (rightwards edge).x0 <ℤ (rightwards edge).x1 → edge.x1 ≢ edge.x0
+pub turned-sloped : (edge : Edge) → (rightwards edge).x0 <ℤ (rightwards edge).x1 → edge.x1 ≢ edge.x0
 turned-sloped edge some same =
     let still = rightwards-right edge (lt_false edge.x1 edge.x0 (omega (arith, ints, same))) in
     let there : edge.x0 <ℤ edge.x1 = subst (λ (e : Edge). e.x0 <ℤ e.x1) still some in

@@ -206,7 +206,8 @@ fn end_in(pieces: &[Piece], edge: Edge) -> bool
     }
 }
 
-fn is_same(one: Edge, other: Edge) -> bool
+/// Whether they are one edge.
+pub fn is_same(one: Edge, other: Edge) -> bool
     ensures { MatchBool result (one ≡ other) (one ≢ other) }
 {
     one == other

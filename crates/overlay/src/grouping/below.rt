@@ -3,12 +3,20 @@
 //! The holes stand in the order in which they begin, and so do the x at which they do. Of each point on the way it is known how
 //! many holes begin left of it. From one point to the next this number passes those holes over whose beginnings the edge goes.
 
-ghost use Rattle.std.specs.Prelude.{◌≡◌, ◌<◌, ◌≤◌, ℕ, All, IfOk, IfSome, length};
-ghost use Rattle.overlay.specs.Grouping.{IsHoleAmong, IsRightward, IsSideAmong};
-ghost use Rattle.overlay.specs.Rings.{AreEnds};
+ghost use Rattle.std.specs.Bool.{OnTrue};
+ghost use Rattle.std.specs.List.{flat_map};
+ghost use Rattle.std.specs.Prelude.{◌≡◌, ◌++◌, ◌<◌, ◌≤◌, ◌<ℤ◌, ◌≤ℤ◌, ◌&&◌, ℕ, ℤ, true, [], All, IfOk, IfSome, List, get_or, length, map};
+ghost use Rattle.plane.specs.declared.edge.Edge.{Edge};
+ghost use Rattle.plane.specs.declared.point.Point.{Point};
+ghost use Rattle.overlay.specs.Contours.Rings.{ring_edges};
+ghost use Rattle.overlay.specs.Fill.Counts.{is_lower_on, is_over};
+ghost use Rattle.overlay.specs.Fill.Filled.{AreNoded};
+ghost use Rattle.overlay.specs.Grouping.{AreBefore, AreEndsAbove, AreEndsUpto, ArePassed, AreTold, IsHoleOf, IsRightward, IsSideOf, IsTold, IsUntold, Rise, begins_of, firsts_of, is_first_or_above, with_side};
+ghost use Rattle.overlay.specs.Rings.{AreEnds, rings_of};
 
 use super::holes::Hole;
 use super::sides::{Side, side_of};
+use crate::fill::pieces::is_sloped;
 use crate::rings::ring_at;
 use plane::edge::edge_between;
 use plane::point::Point;
@@ -23,7 +31,7 @@ const MOST_PASSED: usize = 16;
 
 /// The x at which each hole begins.
 pub fn beginnings<A: Allocator>(alloc: A, holes: &[Hole]) -> Result<Vec<i32, A>, AllocError>
-    ensures { IfOk result (λ xs. length xs.items ≡ length holes.now) }
+    ensures { IfOk result (λ xs. xs.items ≡ begins_of (firsts_of holes.now)) }
 {
     let mut xs = Vec::with_capacity(alloc, holes.len())?;
     for hole in holes {
@@ -34,7 +42,8 @@ pub fn beginnings<A: Allocator>(alloc: A, holes: &[Hole]) -> Result<Vec<i32, A>,
 
 /// Whether a walk passes so few holes that it is faster than a sweep.
 pub fn passes_few(xs: &[i32], points: &[Point], ends: &[usize]) -> bool
-    requires { AreEnds 0 ends.now (length points.now) }
+    requires ends { AreEnds 0 ends.now (length points.now) }
+    requires rise { Rise xs.now }
 {
     let most = points.len().saturating_mul(MOST_PASSED);
     let mut passed = 0;
@@ -48,7 +57,9 @@ pub fn passes_few(xs: &[i32], points: &[Point], ends: &[usize]) -> bool
 }
 
 // How many holes are passed, if so many were before this ring. It stops counting where they are more than the most.
-fn passed_with(before: usize, most: usize, xs: &[i32], points: &[Point]) -> usize {
+fn passed_with(before: usize, most: usize, xs: &[i32], points: &[Point]) -> usize
+    requires { Rise xs.now }
+{
     let Some(last) = points.last() else {
         return before;
     };
@@ -68,12 +79,15 @@ fn passed_with(before: usize, most: usize, xs: &[i32], points: &[Point]) -> usiz
 
 /// Finds the highest side of all rings below each hole.
 pub fn walk_rings(xs: &[i32], holes: &mut [Hole], points: &[Point], ends: &[usize])
-    ghost rings: { ℕ }
-    requires each { length xs.now ≡ length holes.old }
+    ghost rings: { List (List Point) }
+    requires each { xs.now ≡ begins_of (firsts_of holes.old) }
+    requires rise { Rise xs.now }
     requires ends { AreEnds 0 ends.now (length points.now) }
-    requires rings { length ends.now ≤ rings }
-    requires holes { All (IsHoleAmong rings) holes.old }
-    ensures { All (IsHoleAmong rings) holes.new }
+    requires rings { rings ≡ rings_of points.now 0 ends.now }
+    requires noded { AreNoded (flat_map ring_edges rings) }
+    requires holes { All (IsHoleOf rings) holes.old }
+    requires untold { All IsUntold holes.old }
+    ensures { AreTold rings (firsts_of holes.old) holes.new }
 {
     for ring in 0..ends.len() {
         walk(xs, holes, ring_at(points, ends, ring), ring);
@@ -82,11 +96,16 @@ pub fn walk_rings(xs: &[i32], holes: &mut [Hole], points: &[Point], ends: &[usiz
 
 // Notes the sides of the ring of this number at the holes that they are below.
 fn walk(xs: &[i32], holes: &mut [Hole], points: &[Point], ring: usize)
-    ghost rings: { ℕ }
-    requires each { length xs.now ≡ length holes.old }
-    requires ring { ring < rings }
-    requires holes { All (IsHoleAmong rings) holes.old }
-    ensures { All (IsHoleAmong rings) holes.new }
+    ghost rings: { List (List Point) }
+    requires each { xs.now ≡ begins_of (firsts_of holes.old) }
+    requires rise { Rise xs.now }
+    requires noded { AreNoded (flat_map ring_edges rings) }
+    requires within { ring < length rings }
+    requires ring { points.now ≡ get_or rings ring [] }
+    requires holes { All (IsHoleOf rings) holes.old }
+    ensures same { firsts_of holes.new ≡ firsts_of holes.old }
+    ensures holes { All (IsHoleOf rings) holes.new }
+    ensures told { (edges : List Edge) → All (IsTold edges) holes.old → All (IsTold (edges ++ ring_edges points.now)) holes.new }
 {
     let Some(last) = points.last() else {
         return;
@@ -96,8 +115,9 @@ fn walk(xs: &[i32], holes: &mut [Hole], points: &[Point], ring: usize)
     // So many holes begin left of `from`.
     for to in points {
         let next = count_from(xs, count, to.x);
-        if next != count && from.x != to.x {
-            let side = side_of(edge_between(from, *to), ring);
+        let edge = edge_between(from, *to);
+        if next != count && is_sloped(edge) {
+            let side = side_of(edge, ring);
             pass(holes, count.min(next), count.max(next), side);
         }
         from = *to;
@@ -107,11 +127,14 @@ fn walk(xs: &[i32], holes: &mut [Hole], points: &[Point], ring: usize)
 
 // Notes the side at those of the holes from the one place on, and before the other, that it is below.
 fn pass(holes: &mut [Hole], start: usize, end: usize, side: Side)
-    ghost rings: { ℕ }
-    requires side { IsSideAmong rings side }
+    ghost rings: { List (List Point) }
+    requires noded { AreNoded (flat_map ring_edges rings) }
+    requires side { IsSideOf rings side }
+    requires upto { start ≤ end }
     requires end { end ≤ length holes.old }
-    requires holes { All (IsHoleAmong rings) holes.old }
-    ensures { All (IsHoleAmong rings) holes.new }
+    requires passed { ArePassed side.piece.edge start end (firsts_of holes.old) }
+    requires holes { All (IsHoleOf rings) holes.old }
+    ensures { holes.new ≡ map (with_side side) holes.old }
 {
     for place in start..end {
         let Hole { first, below } = holes[place];
@@ -123,15 +146,17 @@ fn pass(holes: &mut [Hole], start: usize, end: usize, side: Side)
 
 // How many holes begin left of this x.
 fn count_before(xs: &[i32], x: i32) -> usize
-    ensures { result ≤ length xs.now }
+    requires { Rise xs.now }
+    ensures { AreBefore xs.now x result }
 {
     xs.partition_point(|other| *other < x)
 }
 
 // The same, step by step from how many begin left of another x.
 fn count_from(xs: &[i32], count: usize, x: i32) -> usize
-    requires { count ≤ length xs.now }
-    ensures { result ≤ length xs.now }
+    requires rise { Rise xs.now }
+    requires count { count ≤ length xs.now }
+    ensures { AreBefore xs.now x result }
 {
     if count < xs.len() && xs[count] < x {
         return count_on(xs, count, x);
@@ -139,9 +164,12 @@ fn count_from(xs: &[i32], count: usize, x: i32) -> usize
     count_back(xs, count, x)
 }
 
-// The same, where they are as many or more.
+// The same, where they are more.
 fn count_on(xs: &[i32], count: usize, x: i32) -> usize
-    ensures { result ≤ length xs.now }
+    requires rise { Rise xs.now }
+    requires within { count < length xs.now }
+    requires less { get_or xs.now count x <ℤ x }
+    ensures { AreBefore xs.now x result }
 {
     for place in count..xs.len() {
         if xs[place] >= x {
@@ -153,8 +181,10 @@ fn count_on(xs: &[i32], count: usize, x: i32) -> usize
 
 // The same, where they are as many or fewer.
 fn count_back(xs: &[i32], count: usize, x: i32) -> usize
-    requires { count ≤ length xs.now }
-    ensures { result ≤ length xs.now }
+    requires rise { Rise xs.now }
+    requires count { count ≤ length xs.now }
+    requires upto { count < length xs.now → x ≤ℤ get_or xs.now count x }
+    ensures { AreBefore xs.now x result }
 {
     let mut left = count;
     // The holes behind `left` don't begin left of it, up to those that were counted.
@@ -170,12 +200,18 @@ fn is_next_below(side: Side, first: Side, below: Option<Side>) -> bool
     requires right { IsRightward side }
     requires first_right { IsRightward first }
     requires below_right { IfSome below IsRightward }
+    ensures { (rings : List (List Point)) → AreNoded (flat_map ring_edges rings) → IsSideOf rings side
+        → IsHoleOf rings (record { first = first; below = below }) → is_over first.piece.edge.x0 side.piece.edge ≡ true
+        → result ≡ (is_lower_on first.piece.edge.x0 side.piece.edge first.piece.edge
+        && is_first_or_above first.piece.edge.x0 side below) }
 {
     !is_over(side, first) && is_first_or_above(side, below) && is_below(side, first)
 }
 
 // Whether both ends of the side are above where the other begins, so that it isn't below it.
-fn is_over(side: Side, other: Side) -> bool {
+fn is_over(side: Side, other: Side) -> bool
+    ensures { OnTrue result (AreEndsAbove other.piece.edge.y0 side.piece.edge) }
+{
     let height = other.piece.edge.y0;
     side.piece.edge.y0 > height && side.piece.edge.y1 > height
 }
@@ -184,6 +220,10 @@ fn is_over(side: Side, other: Side) -> bool {
 fn is_first_or_above(side: Side, best: Option<Side>) -> bool
     requires right { IsRightward side }
     requires best { IfSome best IsRightward }
+    ensures { (rings : List (List Point)) (x : ℤ) → AreNoded (flat_map ring_edges rings) → IsSideOf rings side
+        → is_over x side.piece.edge ≡ true
+        → IfSome best (λ other. IsSideOf rings other × (is_over x other.piece.edge ≡ true))
+        → result ≡ is_first_or_above x side best }
 {
     match best {
         Some(other) => !is_under(side, other) && is_below(other, side),
@@ -192,7 +232,9 @@ fn is_first_or_above(side: Side, best: Option<Side>) -> bool
 }
 
 // Whether both ends of the side are no higher than the lower one of the other, so that it isn't above it.
-fn is_under(side: Side, other: Side) -> bool {
+fn is_under(side: Side, other: Side) -> bool
+    ensures { OnTrue result (AreEndsUpto side.piece.edge other.piece.edge) }
+{
     let height = other.piece.edge.y0.min(other.piece.edge.y1);
     side.piece.edge.y0 <= height && side.piece.edge.y1 <= height
 }
@@ -201,13 +243,16 @@ fn is_under(side: Side, other: Side) -> bool {
 fn is_below(one: Side, other: Side) -> bool
     requires right { IsRightward one }
     requires other_right { IsRightward other }
+    ensures { (rings : List (List Point)) (x : ℤ) → AreNoded (flat_map ring_edges rings) → IsSideOf rings one
+        → IsSideOf rings other → is_over x one.piece.edge ≡ true → is_over x other.piece.edge ≡ true
+        → result ≡ is_lower_on x one.piece.edge other.piece.edge }
 {
     compare_active(active_of(one), active_of(other)) == Ordering::Less
 }
 
 // The side as it would stand in a status. No two lie along one line, so that its place tells nothing.
 fn active_of(side: Side) -> ActiveEdge
-    ensures { result.edge ≡ side.piece.edge }
+    ensures { result ≡ record { edge = side.piece.edge; place = 0 } }
 {
     ActiveEdge {
         edge: side.piece.edge,

@@ -1,8 +1,11 @@
 //! The holes, in the order in which they begin.
 
-ghost use Rattle.std.specs.Prelude.{◌≡◌, ◌<◌, ℕ, All, IfOk, IsPermutation, OnOk, length};
-ghost use Rattle.overlay.specs.Grouping.{IsHoleAmong};
-ghost use Rattle.overlay.specs.Rings.{AreEnds};
+ghost use Rattle.std.specs.Prelude.{◌≡◌, ◌<◌, ◌+◌, [], All, IfOk, IsPermutation, List, OnOk, false, get_or, length, map};
+ghost use Rattle.plane.specs.declared.point.Point.{Point};
+ghost use Rattle.overlay.specs.Fill.Begins.{BeginInOrder};
+ghost use Rattle.overlay.specs.Grouping.{AreFirsts, AreFirstsUpto, IsUntold, firsts_of, pieces_of};
+ghost use Rattle.overlay.specs.Polygons.{is_counterclockwise};
+ghost use Rattle.overlay.specs.Rings.{AreEnds, rings_of};
 
 use super::directions::first_edge;
 use super::sides::{Side, side_of};
@@ -27,8 +30,9 @@ pub fn holes_in_order<A: Allocator>(
     are_outer: &[bool],
 ) -> Result<Vec<Hole, A>, AllocError>
     requires ends { AreEnds 0 ends.now (length points.now) }
-    requires each { length are_outer.now ≡ length ends.now }
-    ensures { IfOk result (λ holes. All (IsHoleAmong (length ends.now)) holes.items) }
+    requires outer { are_outer.now ≡ map is_counterclockwise (rings_of points.now 0 ends.now) }
+    ensures firsts { IfOk result (λ holes. AreFirsts (rings_of points.now 0 ends.now) (firsts_of holes.items)) }
+    ensures untold { IfOk result (λ holes. All IsUntold holes.items) }
 {
     let mut holes = holes(alloc, points, ends, are_outer)?;
     sort_holes(&mut holes);
@@ -37,7 +41,8 @@ pub fn holes_in_order<A: Allocator>(
 
 // Puts the holes in the order in which they begin.
 fn sort_holes(holes: &mut [Hole])
-    ensures { IsPermutation holes.old holes.new }
+    ensures same { IsPermutation holes.old holes.new }
+    ensures order { BeginInOrder (pieces_of (firsts_of holes.new)) }
 {
     holes.sort_unstable_by(|one: &Hole, other: &Hole| -> Ordering {
         compare_begins(one.first.piece.edge, other.first.piece.edge)
@@ -52,8 +57,9 @@ fn holes<A: Allocator>(
     are_outer: &[bool],
 ) -> Result<Vec<Hole, A>, AllocError>
     requires ends { AreEnds 0 ends.now (length points.now) }
-    requires each { length are_outer.now ≡ length ends.now }
-    ensures { IfOk result (λ holes. All (IsHoleAmong (length ends.now)) holes.items) }
+    requires outer { are_outer.now ≡ map is_counterclockwise (rings_of points.now 0 ends.now) }
+    ensures firsts { IfOk result (λ holes. AreFirstsUpto (rings_of points.now 0 ends.now) (length ends.now) (firsts_of holes.items)) }
+    ensures untold { IfOk result (λ holes. All IsUntold holes.items) }
 {
     let mut holes = Vec::new(alloc);
     for ring in 0..ends.len() {
@@ -71,7 +77,10 @@ fn append_hole<A: Allocator>(
     points: &[Point],
     ring: usize,
 ) -> Result<(), AllocError>
-    ensures { OnOk result ((count : ℕ) → ring < count → All (IsHoleAmong count) holes.old.items → All (IsHoleAmong count) holes.new.items) }
+    ensures firsts { OnOk result ((rings : List (List Point)) → ring < length rings → points.now ≡ get_or rings ring []
+        → is_counterclockwise points.now ≡ false → AreFirstsUpto rings ring (firsts_of holes.old.items)
+        → AreFirstsUpto rings (ring + 1) (firsts_of holes.new.items)) }
+    ensures untold { OnOk result (All IsUntold holes.old.items → All IsUntold holes.new.items) }
 {
     if let Some(edge) = first_edge(points) {
         let first = side_of(edge, ring);

@@ -1,12 +1,13 @@
 //! Rings as polygons: which are outer ones, and to which of these each hole belongs.
 
-ghost use Rattle.std.specs.Prelude.{◌≡◌, [], List, All, IfErr, IfOk, OnErr, OnOk, length, map, position};
+ghost use Rattle.std.specs.Prelude.{◌≡◌, [], List, All, IfErr, IfOk, IsPermutation, OnErr, OnOk, length, map, position};
 ghost use Rattle.i_tree.specs.declared.Refusal.TheVariants.{OutOfMemory};
 ghost use Rattle.i_tree.specs.Root.Handles.{HasAllHandles};
 ghost use Rattle.plane.specs.declared.point.Point.{Point};
 ghost use Rattle.overlay.specs.Contours.Outlines.{outline};
 ghost use Rattle.overlay.specs.Contours.Rings.{AreContours, IsRing};
 ghost use Rattle.overlay.specs.Grouping.{AreWithin, placed_polygons};
+ghost use Rattle.overlay.specs.Nesting.{AreNested};
 ghost use Rattle.overlay.specs.Polygons.{Appends, AreExtended, BoundsSome, IsPolygon, rings_of as rings_of_all};
 ghost use Rattle.overlay.specs.Rings.{AreEnds, edges_in, rings_of};
 
@@ -29,6 +30,7 @@ mod holes;
 mod homes;
 mod order;
 mod sides;
+mod sweep;
 
 /// Appends polygons whose rings are those of the points, which stop at these ends, without the points at which they go straight
 /// on. `overlay` calls it for a program. One that has edges of its own calls it itself, behind `boundary`: so it makes polygons of
@@ -37,7 +39,8 @@ mod sides;
 /// No ring visits a point twice. Their edges meet only at common ends, and wind once around some points, and not at all around
 /// any other. Rings that run counterclockwise are outer ones, each of a polygon of its own. The others are holes: what is just
 /// below the first edge of a hole bounds the same piece of the plane. A walk along all rings tells it, and a sweep where most
-/// edges go over many holes. That a hole lies within its polygon is tested and not proved.
+/// edges go over many holes. The polygons have these rings, each once, and each hole is of the polygon of the edge just below where
+/// the hole begins (`AreNested`).
 ///
 /// It begins with an empty status. It is refused where memory was refused, or the status refused an edge: for want of memory alone
 /// if it has handles for any number. It may have appended something then.
@@ -56,6 +59,8 @@ where
     requires bounding { BoundsSome (edges_in points.now ends.now) }
     ensures ok { OnOk result ((whole : List (List (List Point))) × All IsPolygon whole
         × AreContours (edges_in points.now ends.now) (rings_of_all whole)
+        × IsPermutation (rings_of_all whole) (rings_of points.now 0 ends.now)
+        × AreNested whole
         × Appends (map (λ polygon. map outline polygon) whole) out.old out.new) }
     ensures err { OnErr result (AreExtended out.old out.new) }
     ensures refused { HasAllHandles C.has_handles → IfErr result (λ cause. cause ≡ OutOfMemory) }
@@ -84,6 +89,9 @@ where
     ensures polygons { IfOk result (λ order. All IsPolygon (placed_polygons points.now order.items)) }
     ensures contours { IfOk result (λ order.
         AreContours (edges_in points.now ends.now) (rings_of_all (placed_polygons points.now order.items))) }
+    ensures moved { IfOk result (λ order.
+        IsPermutation (rings_of_all (placed_polygons points.now order.items)) (rings_of points.now 0 ends.now)) }
+    ensures nested { IfOk result (λ order. AreNested (placed_polygons points.now order.items)) }
     ensures refused { HasAllHandles C.has_handles → IfErr result (λ cause. cause ≡ OutOfMemory) }
 {
     let are_outer = directions(alloc, points, ends)?;

@@ -1,12 +1,13 @@
 //! The sides of rings: their edges that aren't vertical, in the order in which they begin.
 
-ghost use Rattle.std.specs.Prelude.{◌≡◌, ◌≢◌, ◌<◌, ◌++◌, ◌∷◌, [], ℕ, IfOk, IsPermutation, OnOk, length};
+ghost use Rattle.std.specs.Prelude.{◌≡◌, ◌≢◌, ◌<◌, ◌++◌, ◌∷◌, [], All, Contains, IfOk, IsPermutation, List, OnOk, get_or, length};
+ghost use Rattle.plane.specs.declared.point.Point.{Point};
 ghost use Rattle.overlay.specs.declared.fill.pieces.Operand.TheVariants.{Subject};
 ghost use Rattle.overlay.specs.Contours.Rings.{ring_edges};
 ghost use Rattle.overlay.specs.Fill.Begins.{BeginInOrder};
 ghost use Rattle.overlay.specs.Fill.Turned.{piece_of, turned};
-ghost use Rattle.overlay.specs.Grouping.{AreNumbered, AreSides, IsRightward, pieces_of};
-ghost use Rattle.overlay.specs.Rings.{AreEnds, edges_in};
+ghost use Rattle.overlay.specs.Grouping.{AreSides, IsRightward, IsSideOf, pieces_of};
+ghost use Rattle.overlay.specs.Rings.{AreEnds, edges_in, rings_of};
 
 use super::edges::edge_at;
 use crate::fill::pieces::{Operand, Piece, compare_begins, is_sloped, piece_of};
@@ -30,7 +31,7 @@ pub fn sides_in_order<A: Allocator>(
     ends: &[usize],
 ) -> Result<Vec<Side, A>, AllocError>
     requires { AreEnds 0 ends.now (length points.now) }
-    ensures { IfOk result (λ sides. AreSides (edges_in points.now ends.now) (length ends.now) sides.items) }
+    ensures { IfOk result (λ sides. AreSides (rings_of points.now 0 ends.now) sides.items) }
 {
     let mut sides = all_sides(alloc, points, ends)?;
     sort_sides(&mut sides);
@@ -48,7 +49,7 @@ fn sort_sides(sides: &mut [Side])
 }
 
 // The sides of each ring, ring by ring.
-#[tactic(auto, using(crate::proofs::GroupingLemmas::Edges::turned_ring, crate::proofs::EachRing::rings_all))]
+#[tactic(auto, using(crate::proofs::EachRing::rings_all))]
 fn all_sides<A: Allocator>(
     alloc: A,
     points: &[Point],
@@ -56,7 +57,7 @@ fn all_sides<A: Allocator>(
 ) -> Result<Vec<Side, A>, AllocError>
     requires { AreEnds 0 ends.now (length points.now) }
     ensures pieces { IfOk result (λ sides. pieces_of sides.items ≡ turned Subject (edges_in points.now ends.now)) }
-    ensures numbered { IfOk result (λ sides. AreNumbered (length ends.now) sides.items) }
+    ensures of { IfOk result (λ sides. All (IsSideOf (rings_of points.now 0 ends.now)) sides.items) }
 {
     let mut sides = Vec::with_capacity(alloc, points.len())?;
     for ring in 0..ends.len() {
@@ -73,7 +74,8 @@ fn append_sides<A: Allocator>(
 ) -> Result<(), AllocError>
     ensures pieces { OnOk result (pieces_of sides.new.items
         ≡ pieces_of sides.old.items ++ turned Subject (ring_edges points.now)) }
-    ensures numbered { OnOk result ((count : ℕ) → ring < count → AreNumbered count sides.old.items → AreNumbered count sides.new.items) }
+    ensures of { OnOk result ((rings : List (List Point)) → ring < length rings → points.now ≡ get_or rings ring []
+        → All (IsSideOf rings) sides.old.items → All (IsSideOf rings) sides.new.items) }
 {
     for place in 0..points.len() {
         append_side(sides, edge_at(points, place), ring)?;
@@ -89,7 +91,8 @@ fn append_side<A: Allocator>(
 ) -> Result<(), AllocError>
     ensures pieces { OnOk result (pieces_of sides.new.items
         ≡ pieces_of sides.old.items ++ turned Subject (edge ∷ [])) }
-    ensures numbered { OnOk result ((count : ℕ) → ring < count → AreNumbered count sides.old.items → AreNumbered count sides.new.items) }
+    ensures of { OnOk result ((rings : List (List Point)) → ring < length rings → Contains (ring_edges (get_or rings ring [])) edge
+        → All (IsSideOf rings) sides.old.items → All (IsSideOf rings) sides.new.items) }
 {
     if !is_sloped(edge) {
         return Ok(());

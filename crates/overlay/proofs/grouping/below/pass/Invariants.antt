@@ -1,7 +1,6 @@
-use Rattle.std.specs.List.{All}
-use Rattle.overlay.specs.Grouping.{IsHoleAmong}
+use Rattle.overlay.proofs.GroupingLemmas.Told.{HasPassed}
 use Rattle.overlay.proofs.grouping.below.pass.Given as goal
 
--- each hole and what is found below it are of the rings
+-- so many have been compared with the side
 abbrev pub invariant-loop-place : goal.invariant-loop-place
-invariant-loop-place g l = All (IsHoleAmong g.rings) l.holes
+invariant-loop-place g l = HasPassed l.side l.place l.fn.holes l.holes

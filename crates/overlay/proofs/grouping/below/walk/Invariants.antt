@@ -1,11 +1,9 @@
-use Rattle.std.proofs.Common.{◌≤◌, length}
-use Rattle.std.specs.List.{All}
-use Rattle.overlay.specs.Grouping.{IsHoleAmong}
+use Rattle.overlay.proofs.GroupingLemmas.Told.{HasWalked}
 use Rattle.overlay.proofs.grouping.below.walk.Given as goal
 
--- each hole and what is found below it are of the rings, and no more holes begin left of the point than there are
+-- so far along the ring what is found below the holes is the highest
 abbrev pub invariant-loop-to : goal.invariant-loop-to
-invariant-loop-to g l = record { count : l.count ≤ length l.xs; holes : All (IsHoleAmong g.rings) l.holes }
+invariant-loop-to g l = HasWalked g.rings l.initial.from l.points l.xs l.fn.holes l.to-index l.from l.count l.holes
 
 -- the same rings
 abbrev pub ghost-pass : goal.ghost-pass

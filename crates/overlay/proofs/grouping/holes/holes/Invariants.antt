@@ -1,8 +1,8 @@
-use Rattle.std.proofs.Common.{length}
 use Rattle.std.specs.List.{All}
-use Rattle.overlay.specs.Grouping.{IsHoleAmong}
+use Rattle.overlay.specs.Grouping.{AreFirstsUpto, IsUntold, firsts_of}
+use Rattle.overlay.specs.Rings.{rings_of}
 use Rattle.overlay.proofs.grouping.holes.holes.Given as goal
 
--- each hole is one of the rings
+-- those of the rings so far
 abbrev pub invariant-loop-ring : goal.invariant-loop-ring
-invariant-loop-ring g l = All (IsHoleAmong (length l.ends)) l.holes.items
+invariant-loop-ring g l = AreFirstsUpto (rings_of l.points 0 l.ends) l.ring (firsts_of l.holes.items) × All IsUntold l.holes.items

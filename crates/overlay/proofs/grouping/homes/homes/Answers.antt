@@ -1,20 +1,32 @@
-use Rattle.std.proofs.Common.{◌*◌, Fits, w64, List, length, subst, sym, arith, rules}
-use Rattle.overlay.specs.Fill.Sweep.{AreFillPieces}
-use Rattle.overlay.proofs.ContourLemmas.Counts.{rings-closed}
-use Rattle.overlay.specs.Grouping.{pieces_of}
-use Rattle.overlay.specs.Rings.{edges_in, rings_of}
-use Rattle.overlay.specs.declared.grouping.sides.Side.{Side}
-use Rattle.overlay.proofs.GroupingLemmas.Edges.{length-edges_in}
-use Rattle.overlay.proofs.GroupingLemmas.Filling.{AreFillPieces-sides}
+use Rattle.std.proofs.Common.{List, subst, sym, ◌∙◌}
+use Rattle.std.proofs.lemmas.List.{take_at}
+use Rattle.overlay.specs.Grouping.{AreTold, firsts_of}
+use Rattle.overlay.specs.Rings.{rings_of}
+use Rattle.overlay.specs.declared.grouping.holes.Hole.{Hole}
+use Rattle.overlay.proofs.GroupingLemmas.Homes.{holes-marked, in-turn, share-homes}
 use Rattle.overlay.proofs.grouping.homes.homes.Goals as goal
 
-pub settle-requires-clause-pieces : goal.settle-requires-clause-pieces
-settle-requires-clause-pieces g c =
-    let points = c.args.points.now in
-    let ends = c.args.ends.now in
-    let bounds = c.requires.bounding in
-    let wide : Fits w64 (length points * 8) = search rules in
-    let few = length-edges_in points ends c.requires.ends in
-    subst (λ (sides : List Side). AreFillPieces (pieces_of sides)) (sym c.deref-3.ensures.value)
-    (AreFillPieces-sides (edges_in points ends) (length ends) c.in_ok-sides.sides.items (λ test. rings-closed test (rings_of points 0 ends)) bounds.noded bounds.distinct c.in_ok-sides.ensures
-    (omega (arith, wide, few)))
+pub settle_holes-requires-clause-of : goal.settle_holes-requires-clause-of
+settle_holes-requires-clause-of g c =
+    let rings = rings_of c.args.points.now 0 c.args.ends.now in
+    let firsts = firsts_of c.in_ok-holes.holes.items in
+    let told = subst (λ (holes : List Hole). AreTold rings (firsts_of holes) c.find_below.new.holes) c.deref_mut.ensures.value c.in_ok-find_below.ensures.told in
+    let same = c.deref.ensures.value ∙ take_at c.find_below.new.holes _ c.in_ok-holes.holes.len (c.find_below.auto.holes ∙ c.deref_mut.ensures.len) in
+    holes-marked rings c.requires.bounding.noded firsts c.in_ok-holes.ensures.firsts c.deref.result.now (subst (AreTold rings firsts) (sym same) told) c.args.are_outer.now c.requires.marks
+
+pub settle_holes-requires-clause-turn : goal.settle_holes-requires-clause-turn
+settle_holes-requires-clause-turn g c =
+    let rings = rings_of c.args.points.now 0 c.args.ends.now in
+    let firsts = firsts_of c.in_ok-holes.holes.items in
+    let told = subst (λ (holes : List Hole). AreTold rings (firsts_of holes) c.find_below.new.holes) c.deref_mut.ensures.value c.in_ok-find_below.ensures.told in
+    let same = c.deref.ensures.value ∙ take_at c.find_below.new.holes _ c.in_ok-holes.holes.len (c.find_below.auto.holes ∙ c.deref_mut.ensures.len) in
+    in-turn rings c.requires.bounding.noded firsts c.in_ok-holes.ensures.firsts c.deref.result.now (subst (AreTold rings firsts) (sym same) told)
+
+pub returns-clause-share : goal.returns-clause-share
+returns-clause-share g c =
+    let rings = rings_of c.args.points.now 0 c.args.ends.now in
+    let firsts = firsts_of c.in_ok-holes.holes.items in
+    let told = subst (λ (holes : List Hole). AreTold rings (firsts_of holes) c.find_below.new.holes) c.deref_mut.ensures.value c.in_ok-find_below.ensures.told in
+    let same = c.deref.ensures.value ∙ take_at c.find_below.new.holes _ c.in_ok-holes.holes.len (c.find_below.auto.holes ∙ c.deref_mut.ensures.len) in
+    rw (take_at c.settle_holes.new.homes _ c.in_ok-homes.homes.len (c.settle_holes.auto.homes ∙ c.deref_mut-2.ensures.len))
+    (share-homes rings c.requires.bounding.noded firsts c.in_ok-holes.ensures.firsts c.deref.result.now (subst (AreTold rings firsts) (sym same) told) c.requires.bounding.distinct c.args.are_outer.now c.settle_holes.new.homes c.settle_holes.ensures.settled)

@@ -1,6 +1,6 @@
-use Rattle.overlay.specs.Grouping.{AreHomes}
+use Rattle.overlay.proofs.GroupingLemmas.Homes.{HaveSettled}
 use Rattle.overlay.proofs.grouping.homes.settle_holes.Given as goal
 
--- each home is an outer ring
+-- so many have their homes
 abbrev pub invariant-loop-hole : goal.invariant-loop-hole
-invariant-loop-hole l = AreHomes l.are_outer l.homes
+invariant-loop-hole l = HaveSettled l.are_outer l.holes l.hole-index l.homes
