@@ -33,27 +33,31 @@ pub use Rattle.overlay.proofs.AreaLemmas.Nearest.{leftmost-next, next-alone, nex
 pub use Rattle.overlay.proofs.AreaLemmas.Wedges.{IsNextAround, clockwise_of, counter_of, same-between}
 pub use Rattle.overlay.proofs.WindsLemmas.Corners.{ends-next, left-alike, left-once, right-none, starts-next}
 -- So a walk keeps to pairs: of the edges that end at a point each is walked exactly if the next one is.
-pub use Rattle.overlay.proofs.WindsLemmas.Pairs.{ArePairsBut, HasCome, IsNextPlace, goes-off, goes-on, pairs-back, pairs-begin, pairs-end, pairs-first}
+pub use Rattle.overlay.proofs.WindsLemmas.Pairs.{ArePairsBut, HasCome, IsNextPlace, goes-next, goes-off, goes-on, pairs-back, pairs-begin, pairs-end, pairs-first}
 -- Of polygons that wind once around a point or not at all each does by itself, where the edge just below a leftwards one is of the
 -- same polygon.
 pub use Rattle.overlay.proofs.WindsLemmas.Polygons.{KeepTogether, each-once}
 -- So it is where the edges of each ring have the polygon as often on their left, and each hole is at home where the ring just below
 -- its first edge is.
 pub use Rattle.overlay.proofs.WindsLemmas.Homes.{AreAtHome, home-once, left-own}
+-- So polygons of rings that keep sides wind once around a point or not at all, each by itself, where each hole is of the polygon
+-- just below it; and so do those of their outlines.
+pub use Rattle.overlay.proofs.WindsLemmas.Nested.{nest-once, outlined-once}
 -- Of the polygons of an overlay and edges along an axis that were among those given, no two cross at a point with fractions: so an
 -- overlay of these polygons with such edges is exact at every point, by `exact-everywhere`.
 pub use Rattle.overlay.proofs.UncrossedLemmas.Crossing.{none-cross}
 -- The same of edges that bound a result, before these are polygons. Edges of which none is a point are all real ones.
 pub use Rattle.overlay.proofs.UncrossedLemmas.Crossing.{bounds-cross, real-all}
--- Edges that are kept of pieces bound a result, and so do the rings of them: they wind once around a point or not at all, and as the
--- result of all edges given where each of these counts exactly. Some edge isn't vertical. What bounds a result bounds something, and
--- polygons of it are an overlay. They wind as the edges, and their points are ends of such as aren't vertical. A ring's edges are closed.
+-- Edges that are kept of pieces bound a result, and so do the rings of them: they wind once around a point or not at all, and as
+-- the result of all edges given where each of these counts exactly. Some edge isn't vertical. What bounds a result bounds
+-- something, and polygons of it are an overlay. They wind as the edges, and their points are ends of such as aren't vertical. A
+-- ring's edges are closed.
 pub use Rattle.overlay.proofs.BoundaryLemmas.Bounding.{filled-bounds, rings-bound, winds-once}
 pub use Rattle.overlay.proofs.BoundaryLemmas.Corners.{outlines-sloped}
 pub use Rattle.overlay.proofs.BoundaryLemmas.Sloped.{HasSloped-next, HasSloped-permuted}
 pub use Rattle.overlay.proofs.ContourLemmas.Callers.{IsClosed-ring, outlines-wind, winding-contours}
 pub use Rattle.overlay.proofs.GroupingLemmas.Grouped.{map-joined}
-pub use Rattle.overlay.proofs.OverlayLemmas.{bounds-some, exact-real, polygons-overlay}
+pub use Rattle.overlay.proofs.OverlayLemmas.{bounds-borders, bounds-nest, bounds-some, exact-real, outlines-each, polygons-overlay}
 -- Around a point of an edge that isn't vertical they wind otherwise than around a point just below it.
 pub use Rattle.overlay.proofs.BoundaryLemmas.Apart.{WindApart, winds-apart}
 use Rattle.overlay.proofs.ContourLemmas.Counts.{rings-closed}

@@ -1,7 +1,7 @@
 -- Polygons of the edges that bound a result are an overlay.
-use Rattle.std.proofs.Common.{◌≡◌, inl, inr, ⊎_elim, ◌++◌, ◌≤◌, List, length, ℤ, map, refl, ap₂, sym, subst, ◌∙◌}
+use Rattle.std.proofs.Common.{◌≡◌, inl, inr, ⊎_elim, ◌++◌, [], ◌∷◌, ◌≤◌, ◌<ℤ◌, pos, List, length, ℤ, map, refl, ap₂, sym, subst, ◌∙◌}
 use Rattle.std.specs.List.{All, Contains, flat_map}
-use Rattle.std.proofs.lemmas.List.Elements.{All-append, All-filter, All-weaker, Contains-append_cases, Contains-append_left, Contains-append_right}
+use Rattle.std.proofs.lemmas.List.Elements.{All-append, All-cons, All-filter, All-head, All-nil, All-tail, All-weaker, Contains-append_cases, Contains-append_left, Contains-append_right}
 use Rattle.i_tree.proofs.RootLemmas.Joined.{All-front, All-behind}
 use Rattle.i_tree.proofs.RootLemmas.Members.{Contains-from_filter}
 use Rattle.plane.specs.declared.edge.Edge.{Edge}
@@ -9,6 +9,7 @@ use Rattle.plane.specs.declared.point.Point.{Point}
 use Rattle.plane.specs.Meet.Edges.{RationalPoint}
 use Rattle.overlay.specs.declared.fill.rules.FillRule.{FillRule}
 use Rattle.overlay.specs.declared.fill.rules.Operation.{Operation}
+use Rattle.overlay.specs.Areas.{twice_area_of}
 use Rattle.overlay.specs.Boundary.{BoundsResult, WindsAsBroken, result_at}
 use Rattle.overlay.specs.Polygons.{BoundsSome, HasSignedArea, HasSloped, IsPolygon, WindsOnce, rings_of}
 use Rattle.overlay.specs.Contours.Outlines.{AreOutlines, outline}
@@ -27,8 +28,12 @@ use Rattle.overlay.specs.Overlay.{IsOverlay, polygon_edges}
 use Rattle.overlay.proofs.GroupingLemmas.Corners.{rings-corners}
 use Rattle.overlay.proofs.GroupingLemmas.Grouped.{map-joined}
 use Rattle.overlay.proofs.GroupingLemmas.Outlined.{outlines-run, polygons-outlined}
+use Rattle.overlay.specs.Nesting.{AreNested, NestOnce, PolygonWindsOnce}
 use Rattle.overlay.specs.Rings.{has_two_ends, real_edges}
+use Rattle.overlay.specs.Sides.{AreBorders, KeepSides}
 use Rattle.overlay.proofs.RingLemmas.{winding-real}
+use Rattle.overlay.proofs.WindsLemmas.Areas.{polygons-area}
+use Rattle.overlay.proofs.WindsLemmas.Nested.{nest-once, outlined-once}
 use Rattle.overlay.proofs.WindsLemmas.Rings.{boundary-once, outlines-once}
 
 -- edges that bound a result bound something
@@ -39,6 +44,21 @@ bounds-some rule operation subject clip edges bounds sloped = record {
   once = winds-once rule operation subject clip edges bounds.everywhere;
   sloped = sloped;
 }
+
+-- and are borders
+pub bounds-borders : (rule : FillRule) (operation : Operation) (subject clip edges : List Edge) → BoundsResult rule operation subject clip edges → AreBorders edges
+bounds-borders rule operation subject clip edges bounds = record {
+  noded = bounds.noded;
+  distinct = bounds.distinct;
+  two_ends = bounds.two_ends;
+  once = winds-once rule operation subject clip edges bounds.everywhere;
+}
+
+-- so rings of them that keep sides nest once
+pub bounds-nest : (rule : FillRule) (operation : Operation) (subject clip edges : List Edge) → BoundsResult rule operation subject clip edges → (rings : List (List Point)) → AreContours edges rings → (AreBorders edges → KeepSides edges rings) → NestOnce rings
+bounds-nest rule operation subject clip edges bounds rings are keep =
+    let borders = bounds-borders rule operation subject clip edges bounds in
+    nest-once edges rings are borders (keep borders)
 
 -- ---- real edges
 
@@ -81,9 +101,16 @@ module _ (subject clip : List Edge) where
 
 -- ---- polygons
 
-pub polygons-overlay : (rule : FillRule) (operation : Operation) (subject clip edges : List Edge) (whole : List (List (List Point))) → BoundsResult rule operation (real_edges subject) (real_edges clip) edges → All IsPolygon whole → AreContours edges (rings_of whole)
+-- outlines of polygons wind as these
+pub outlines-each : (whole : List (List (List Point))) → All PolygonWindsOnce whole → All PolygonWindsOnce (map (λ polygon. map outline polygon) whole)
+outlines-each [] each = All-nil PolygonWindsOnce
+outlines-each (polygon ∷ others) each =
+    All-cons PolygonWindsOnce (map outline polygon) (map (λ p. map outline p) others) (outlined-once polygon (All-head PolygonWindsOnce polygon others each))
+    (outlines-each others (All-tail PolygonWindsOnce polygon others each))
+
+pub polygons-overlay : (rule : FillRule) (operation : Operation) (subject clip edges : List Edge) (whole : List (List (List Point))) → BoundsResult rule operation (real_edges subject) (real_edges clip) edges → All IsPolygon whole → AreContours edges (rings_of whole) → All PolygonWindsOnce whole
     → IsOverlay rule operation subject clip (map (λ polygon. map outline polygon) whole)
-polygons-overlay rule operation subject clip edges whole bounds directed are =
+polygons-overlay rule operation subject clip edges whole bounds directed are each =
     let outlines = subst (AreOutlines edges) (sym (map-joined outline whole)) (outlines-wind edges (rings_of whole) are) in
     let polygons = map (λ polygon. map outline polygon) whole in
     let boundary = rings-bound rule operation (real_edges subject) (real_edges clip) edges (rings_of whole) bounds are in
@@ -96,6 +123,8 @@ polygons-overlay rule operation subject clip edges whole bounds directed are =
       directed = polygons-outlined whole alike directed;
       areas = subst (All HasSignedArea) (sym (map-joined outline whole)) (outlines-signed (rings_of whole) alike (boundary-signed rule operation (real_edges subject) (real_edges clip) (rings_of whole) boundary));
       winds = subst (All WindsOnce) (sym (map-joined outline whole)) (outlines-once (rings_of whole) alike (boundary-once rule operation (real_edges subject) (real_edges clip) (rings_of whole) boundary));
+      each_once = outlines-each whole each;
+      each_area = polygons-area whole directed are.each boundary.bounds.noded boundary.bounds.distinct boundary.bounds.two_ends each;
       everywhere = everywhere;
       once = winds-once rule operation (real_edges subject) (real_edges clip) (polygon_edges polygons) everywhere;
       exact = exact-real subject clip rule operation (polygon_edges polygons) everywhere;

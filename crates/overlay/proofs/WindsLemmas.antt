@@ -1,11 +1,21 @@
 -- Lemmas of how often rings wind around points.
+pub mod Areas
+pub mod Begun
 pub mod Corners
 pub mod Each
 pub mod Homes
+pub mod Leaning
 pub mod Left
+pub mod LowerBefore
 pub mod Moved
+pub mod Nested
+pub mod NextBelow
 pub mod Once
+pub mod OwnPolygon
 pub mod Paired
 pub mod Pairs
 pub mod Polygons
+pub mod RingHomes
 pub mod Rings
+pub mod Told
+pub mod Walked

@@ -1,5 +1,5 @@
 -- Areas of rings.
-use Rattle.std.specs.Prelude.{List, ℤ}
+use Rattle.std.specs.Prelude.{List, [], ◌∷◌, ℤ, pos, ◌+ℤ◌}
 use Rattle.plane.specs.declared.edge.Edge.{Edge}
 use Rattle.plane.specs.declared.point.Point.{Point}
 use Rattle.plane.specs.Meet.Crosses.{cross}
@@ -13,3 +13,8 @@ swept edge = cross edge.x0 edge.y0 edge.x1 edge.y1
 -- Twice the area of a ring, by the shoelace formula: above 0 where it runs counterclockwise.
 abbrev pub twice_area : List Point → ℤ
 twice_area ring = total swept (ring_edges ring)
+
+-- Twice the area of a polygon, or of some rings: that of outer rings less that of holes.
+abbrev pub twice_area_of : List (List Point) → ℤ
+twice_area_of [] = pos 0
+twice_area_of (ring ∷ rings) = twice_area ring +ℤ twice_area_of rings

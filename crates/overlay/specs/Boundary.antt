@@ -13,6 +13,7 @@ use Rattle.overlay.specs.Contours.Rings.{IsRing, ring_edges}
 use Rattle.overlay.specs.Fill.Filled.{AreDistinct, AreNoded}
 use Rattle.overlay.specs.Fill.Turned.{turned}
 use Rattle.overlay.specs.Fill.Rules.{is_result}
+use Rattle.overlay.specs.Nesting.{NestOnce}
 use Rattle.overlay.specs.Polygons.{HasSloped}
 use Rattle.noding.specs.Chains.{IsHot}
 use Rattle.noding.specs.Local.{IsNodeChain}
@@ -63,10 +64,10 @@ pub record IsBoundary (rule : FillRule) (operation : Operation) (subject clip : 
   pub bounds : BoundsResult rule operation subject clip (flat_map ring_edges rings)
 
 -- Rings that bound the result stand behind the points and behind where rings stopped among these, and if there are any, some edge
--- of theirs isn't vertical.
+-- of theirs isn't vertical. Polygons of them wind once each, where holes are of the polygon just below them.
 abbrev pub AppendsBoundary : FillRule → Operation → List Edge → List Edge → List Point → List Point → List ℕ → List ℕ → Type 0
 AppendsBoundary rule operation subject clip points points' ends ends' =
-    (rings : List (List Point)) × IsBoundary rule operation subject clip rings × HasSloped (flat_map ring_edges rings)
+    (rings : List (List Point)) × IsBoundary rule operation subject clip rings × HasSloped (flat_map ring_edges rings) × NestOnce rings
     × (points' ≡ points ++ flat_map (λ ring. ring) rings) × (ends' ≡ ends ++ offsets (length points) rings)
 
 -- Lists of which none is empty.

@@ -1,5 +1,5 @@
--- The winding numbers of edges just below an edge, where it begins from the left, and just to the left of one of them; and rings whose
--- edges have as much on their left.
+-- The winding numbers of edges just below an edge, where it begins from the left, and just to the left of one of them; and rings
+-- whose edges have as much on their left.
 use Rattle.std.specs.Prelude.{◌≡◌, ◌≢◌, ◌⊎◌, ◌+◌, ◌<◌, ℕ, Bool, ℤ, pos, ◌+ℤ◌, ◌*ℤ◌, cond, ◌&&◌, not, List, All, Contains, map}
 use Rattle.std.specs.Int.Signed.{lt_z}
 use Rattle.std.specs.Ordering.{int_eq}

@@ -51,10 +51,10 @@ module _ (edges : List Edge) (two_ends : All (λ edge. start_of edge ≢ end_of 
         not-steepest slanted closed slanted-sloped (sheared_edge n edge) is (AreNoded-sheared n some edges noded) (AreDistinct-sheared n some edges distinct) slanted-flat
         (upright-rightwards n edge vertical)
 
-    -- so it was the first one of those that aren't vertical, and goes the same way
-    same-way : (edge : Edge) → Contains edges edge → IsFirst slanted (sheared_edge n edge) → (best : Option Edge) → Told edges best → runs_rightwards best ≡ lt_z (sheared_edge n edge).x0 (sheared_edge n edge).x1
-    same-way edge inside is None told = absurd (told edge inside (λ same. first-sloped edge is (sym same)))
-    same-way edge inside is (Some best) told =
+    -- so it was the first one of those that aren't vertical
+    same-first : (edge : Edge) → Contains edges edge → IsFirst slanted (sheared_edge n edge) → (best : Option Edge) → Told edges best → best ≡ Some edge
+    same-first edge inside is None told = absurd (told edge inside (λ same. first-sloped edge is (sym same)))
+    same-first edge inside is (Some best) told =
         let sloped = first-sloped edge is in
         let sloped_best : best.x0 ≢ best.x1 = λ same. told.sloped (sym same) in
         let among = Contains-map (sheared_edge n) edges best told.among in
@@ -62,15 +62,20 @@ module _ (edges : List Edge) (two_ends : All (λ edge. start_of edge ≢ end_of 
         begins-sheared n b wide edge best (is-low edge inside) (is-low best told.among) sloped sloped_best
         (is.begins (sheared_edge n best) among (λ same. slanted-sloped (sheared_edge n best) among (sym same))) in
         let back : BeginsUpto (rightwards best) (rightwards edge) = told.begins edge inside (λ same. sloped (sym same)) in
-        let one : best ≡ edge =
-        same-one edges best edge distinct told.among inside
+        ap (λ (e : Edge). Some e)
+        (same-one edges best edge distinct told.among inside
         (turned-same best edge
-        (alike (rightwards best) (rightwards edge) (turned-meet edges noded best edge told.among inside) (rightwards-onwards best sloped_best) (rightwards-onwards edge sloped) back upto)) in
-        ap (λ (e : Edge). lt_z e.x0 e.x1) one ∙ sym (runs-sheared n b wide edge (is-low edge inside) sloped)
+        (alike (rightwards best) (rightwards edge) (turned-meet edges noded best edge told.among inside) (rightwards-onwards best sloped_best) (rightwards-onwards edge sloped) back upto)))
 
-    -- the first of the sheared ones goes the way by which a ring's direction is told
+    -- The first of the sheared ones is the sheared edge by which a ring's direction is told, which isn't vertical.
+    pub slanted-first : (first : Edge) → IsFirst (map (sheared_edge n) edges) first → (edge : Edge) × Contains edges edge × (first_sloped None edges ≡ Some edge) × (edge.x0 ≢ edge.x1) × (sheared_edge n edge ≡ first)
+    slanted-first first is =
+        let (edge, inside, at) = Contains-from_map (sheared_edge n) edges first is.among in
+        let is_too = subst (λ (e : Edge). IsFirst slanted e) (sym at) is in
+        (edge, inside, same-first edge inside is_too (first_sloped None edges) (told-all edges), first-sloped edge is_too, at)
+
+    -- and goes the same way
     pub slanted-runs : (first : Edge) → IsFirst (map (sheared_edge n) edges) first → runs_rightwards (first_sloped None edges) ≡ lt_z first.x0 first.x1
     slanted-runs first is =
-        let (edge, inside, at) = Contains-from_map (sheared_edge n) edges first is.among in
-        same-way edge inside (subst (λ (e : Edge). IsFirst slanted e) (sym at) is) (first_sloped None edges) (told-all edges)
-        ∙ ap (λ (e : Edge). lt_z e.x0 e.x1) at
+        let (edge, inside, best, sloped, at) = slanted-first first is in
+        ap (λ (e : Option Edge). runs_rightwards e) best ∙ sym (runs-sheared n b wide edge (is-low edge inside) sloped) ∙ ap (λ (e : Edge). lt_z e.x0 e.x1) at

@@ -23,12 +23,13 @@ use Rattle.overlay.proofs.WindsLemmas.Moved.{all-within, moved, moved-apart, she
 
 -- ---- from a point to a sheared one
 
--- A sheared point around which the sheared edges wind as the edges do around the point.
-pub record Slanted (edges : List Edge) (point : RationalPoint) : Type 0 where
+-- A sheared point around which the sheared edges wind as the edges do around the point; all edges are low for how much they are
+-- sheared.
+pub record Slanted (all edges : List Edge) (point : RationalPoint) : Type 0 where
   pub n : ℕ
   pub b : ℕ
   pub wide : b + b < n
-  pub low : All (IsLow b) edges
+  pub low : All (IsLow b) all
   pub other : RationalPoint
   pub alike : winding (map (sheared_edge n) edges) other ≡ winding edges point
 
@@ -87,14 +88,14 @@ module _ (edges : List Edge) (point : RationalPoint) (m : ℕ) (steep : All (λ 
         (λ edge among. under-sheared n (s + e) wide there apart (reversed edge) (end edge among) (start edge among) ∙ under-back edge among))
 
 -- each point has one
-pub slanted : (edges : List Edge) (point : RationalPoint) → Slanted edges point
-slanted edges point =
+pub slanted : (all edges : List Edge) (point : RationalPoint) → Slanted all edges point
+slanted all edges point =
     let (m, steep) = all-within (λ edge. edge.y1 -ℤ edge.y0) edges in
     let (l, short) = all-within (λ edge. ((edge.x1 -ℤ edge.x0) *ℤ pos m) -ℤ (edge.y1 -ℤ edge.y0)) edges in
     let place = there edges point m steep l short in
     let (s, starts) = all-within (λ edge. place.y -ℤ (pos place.n *ℤ edge.y0)) edges in
     let (e, ends) = all-within (λ edge. place.y -ℤ (pos place.n *ℤ edge.y1)) edges in
-    let (b, low) = all-low edges in record {
+    let (b, low) = all-low all in record {
       n = n edges point m steep l short s starts e ends b;
       b = b;
       wide = omega arith;
@@ -109,7 +110,7 @@ slanted edges point =
 -- or not at all, the way that it runs.
 pub winds-directed : (ring : List Point) → IsRing ring → AreNoded (ring_edges ring) → AreDistinct (ring_edges ring) → All (λ edge. start_of edge ≢ end_of edge) (ring_edges ring) → WindsOnce ring
 winds-directed ring is noded distinct two_ends point =
-    let is_slanted = slanted (ring_edges ring) point in
+    let is_slanted = slanted (ring_edges ring) (ring_edges ring) point in
     let n = is_slanted.n in
     let b = is_slanted.b in
     let wide = is_slanted.wide in

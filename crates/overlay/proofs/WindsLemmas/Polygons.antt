@@ -31,7 +31,7 @@ KeepTogether edges mine = (x : ℤ) (one other : Edge) → IsNextBelow edges x o
 
 -- ---- which edges are of a list
 
-abbrev holds : List Edge → Edge → Bool
+abbrev pub holds : List Edge → Edge → Bool
 holds [] edge = false
 holds (first ∷ others) edge = is_same edge first || holds others edge
 
@@ -58,7 +58,7 @@ or-true : (s t : Bool) → t ≡ true → (s || t) ≡ true
 or-true true t told = refl
 or-true false t told = told
 
-holds-is : (mine : List Edge) (edge : Edge) → holds mine edge ≡ true → Contains mine edge
+pub holds-is : (mine : List Edge) (edge : Edge) → holds mine edge ≡ true → Contains mine edge
 holds-is [] edge told = absurd (never told)
   where
     never : false ≡ true → ⊥
@@ -69,12 +69,12 @@ holds-is (first ∷ others) edge told = by (holds-is others edge) (either (is_sa
     by rest (inl same) = (0, omega arith, same-edge edge first same)
     by rest (inr later) = Contains-there first others edge (rest later)
 
-is-held : (mine : List Edge) (edge : Edge) → Contains mine edge → holds mine edge ≡ true
+pub is-held : (mine : List Edge) (edge : Edge) → Contains mine edge → holds mine edge ≡ true
 is-held [] edge (k, within, is) = absurd (omega (arith, within))
 is-held (first ∷ others) edge (zero, within, is) = ap (λ (t : Bool). t || holds others edge) (subst (λ (e : Edge). is_same edge e ≡ true) (sym is) (is-same edge))
 is-held (first ∷ others) edge (suc k, within, is) = or-true (is_same edge first) (holds others edge) (is-held others edge (k, omega (arith, within), is))
 
-not-held : (mine : List Edge) (edge : Edge) → ¬ (Contains mine edge) → holds mine edge ≡ false
+pub not-held : (mine : List Edge) (edge : Edge) → ¬ (Contains mine edge) → holds mine edge ≡ false
 not-held mine edge none = by (holds mine edge) refl
   where
     by : (t : Bool) → holds mine edge ≡ t → holds mine edge ≡ false
@@ -100,7 +100,7 @@ none-left test (edge ∷ edges) all = by (test edge) (All-head (λ (e : Edge). t
     by true told rest = cc
 
 -- of distinct edges those that are of some in their middle are these
-only-mine : (before mine after : List Edge) → AreDistinct (before ++ (mine ++ after)) → filter (holds mine) (before ++ (mine ++ after)) ≡ mine
+pub only-mine : (before mine after : List Edge) → AreDistinct (before ++ (mine ++ after)) → filter (holds mine) (before ++ (mine ++ after)) ≡ mine
 only-mine before mine after distinct =
     let Differ : Edge → Edge → Type 0 = λ one other. ¬ (HaveSameEnds one other) in
     let first : All (λ one. All (Differ one) (mine ++ after)) before = AllPairs-across Differ before (mine ++ after) distinct in

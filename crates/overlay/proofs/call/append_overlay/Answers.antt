@@ -1,4 +1,4 @@
-use Rattle.std.proofs.Common.{List, All, map, subst, sym}
+use Rattle.std.proofs.Common.{List, All, IsPermutation, map, subst, sym}
 use Rattle.std.specs.List.{flat_map}
 use Rattle.std.proofs.lemmas.Result.{on_ok_weaker}
 use Rattle.plane.specs.declared.point.Point.{Point}
@@ -6,27 +6,28 @@ use Rattle.overlay.specs.Boundary.{BoundsResult}
 use Rattle.overlay.specs.Contours.Outlines.{outline}
 use Rattle.overlay.specs.Contours.Rings.{AreContours, IsRing, ring_edges}
 use Rattle.overlay.specs.Polygons.{AreAppended, BoundsSome, IsPolygon, rings_of as all_rings}
-use Rattle.overlay.specs.Rings.{edges_in, edges_of, real_edges}
+use Rattle.overlay.specs.Nesting.{AreNested, NestOnce}
+use Rattle.overlay.specs.Rings.{edges_in, edges_of, real_edges, rings_of as rings_in}
 use Rattle.overlay.proofs.Callers.{AreEnds-joined, AreJoined-first, rings-joined}
 use Rattle.overlay.proofs.OverlayLemmas.{bounds-some, polygons-overlay}
 use Rattle.overlay.proofs.call.append_overlay.Goals as goal
 
 pub append_polygons-requires-clause-ends : goal.append_polygons-requires-clause-ends
 append_polygons-requires-clause-ends g c =
-    let (rings, _, _, points_are, ends_are) = c.in_ok-append_boundary.ensures.ok in
+    let (rings, _, _, _, points_are, ends_are) = c.in_ok-append_boundary.ensures.ok in
     AreEnds-joined rings c.deref.result.now c.deref-2.result.now
     (AreJoined-first rings _ _ _ _ _ _ c.new-points.ensures.items c.new-ends.ensures.items points_are ends_are c.deref.ensures.value c.deref-2.ensures.value)
 
 pub append_polygons-requires-clause-each : goal.append_polygons-requires-clause-each
 append_polygons-requires-clause-each g c =
-    let (rings, is, _, points_are, ends_are) = c.in_ok-append_boundary.ensures.ok in
+    let (rings, is, _, _, points_are, ends_are) = c.in_ok-append_boundary.ensures.ok in
     let same = rings-joined rings c.deref.result.now c.deref-2.result.now
     (AreJoined-first rings _ _ _ _ _ _ c.new-points.ensures.items c.new-ends.ensures.items points_are ends_are c.deref.ensures.value c.deref-2.ensures.value) in
     subst (λ (all : List (List Point)). All IsRing all) (sym same) is.each
 
 pub append_polygons-requires-clause-bounding : goal.append_polygons-requires-clause-bounding
 append_polygons-requires-clause-bounding g c =
-    let (rings, is, sloped, points_are, ends_are) = c.in_ok-append_boundary.ensures.ok in
+    let (rings, is, sloped, _, points_are, ends_are) = c.in_ok-append_boundary.ensures.ok in
     let same = rings-joined rings c.deref.result.now c.deref-2.result.now
     (AreJoined-first rings _ _ _ _ _ _ c.new-points.ensures.items c.new-ends.ensures.items points_are ends_are c.deref.ensures.value c.deref-2.ensures.value) in
     subst (λ (all : List (List Point)). BoundsSome (flat_map ring_edges all)) (sym same)
@@ -42,13 +43,16 @@ returns-clause-ok g c =
     let ends = c.deref-2.result.now in
     let out = c.args.out.now in
     let new = c.append_polygons.new.out in
-    let (rings, is, _, points_are, ends_are) = c.in_ok-append_boundary.ensures.ok in
+    let (rings, is, _, nest, points_are, ends_are) = c.in_ok-append_boundary.ensures.ok in
     let same = rings-joined rings points ends (AreJoined-first rings _ _ _ _ _ _ c.new-points.ensures.items c.new-ends.ensures.items points_are ends_are c.deref.ensures.value c.deref-2.ensures.value) in
     let bounds : BoundsResult rule operation (real_edges subject) (real_edges clip) (edges_in points ends) =
     subst (λ (all : List (List Point)). BoundsResult rule operation (real_edges subject) (real_edges clip) (flat_map ring_edges all)) (sym same) is.bounds in
+    let nest' : NestOnce (rings_in points 0 ends) = subst NestOnce (sym same) nest in
     on_ok_weaker c.append_polygons.result (λ (found : (whole : List (List (List Point))) × All IsPolygon whole × AreContours (edges_in points ends) (all_rings whole)
-    × AreAppended (map (λ polygon. map outline polygon) whole) out.points.items new.points.items out.ring_ends.items new.ring_ends.items out.polygon_ends.items new.polygon_ends.items). (
-      map (λ polygon. map outline polygon) found.0,
-      polygons-overlay rule operation subject clip (edges_in points ends) found.0 bounds found.1 found.2,
-      found.3,
+    × IsPermutation (all_rings whole) (rings_in points 0 ends) × AreNested whole
+    × AreAppended (map (λ polygon. map outline polygon) whole) out.points.items new.points.items out.ring_ends.items new.ring_ends.items out.polygon_ends.items new.polygon_ends.items).
+    let (whole, directed, contours, moved, nested, appends) = found in (
+      map (λ polygon. map outline polygon) whole,
+      polygons-overlay rule operation subject clip (edges_in points ends) whole bounds directed contours (nest' whole moved directed nested),
+      appends,
     )) c.append_polygons.ensures.ok
