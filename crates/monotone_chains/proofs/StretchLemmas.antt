@@ -28,6 +28,12 @@ pub mod LongOnes
 pub mod Lowered
 pub mod Made
 pub mod Moved
+pub mod Nested
+pub mod NestedAcross
+pub mod NestedFirst
+pub mod NestedHoles
+pub mod NestedOrder
+pub mod NestedZips
 pub mod Noded
 pub mod NodedColumns
 pub mod NodedKinds

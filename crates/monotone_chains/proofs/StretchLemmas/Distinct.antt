@@ -47,7 +47,7 @@ module _ (all : List (List Point)) (each : All IsStretch all) (clear : AllPairs 
         let (t, of_all, near, if_long) = placed-near all each other (placed (same-sloped one other same one-sloped)) in
         long-apart t of_all near other (λ one_stretch. if_long (subst IsLong one_stretch goes.long)) differ same
 
-  pieces-apart : (one other e f : Edge) (way other_way : List Point) → GoesAlong all e way → GoesAlong all f other_way → Contains (pieces way) one → Contains (pieces other_way) other → (e.x1 ≢ e.x0 → IsPlaced all e) → (f.x1 ≢ f.x0 → IsPlaced all f)
+  pub pieces-apart : (one other e f : Edge) (way other_way : List Point) → GoesAlong all e way → GoesAlong all f other_way → Contains (pieces way) one → Contains (pieces other_way) other → (e.x1 ≢ e.x0 → IsPlaced all e) → (f.x1 ≢ f.x0 → IsPlaced all f)
       → ¬ (HaveSameEnds e f) → ¬ (HaveSameEnds one other)
   pieces-apart one other e f way other_way goes goes_too is is_too placed placed_too differ = go (way-kind all each clear e way goes) (way-kind all each clear f other_way goes_too)
     where
@@ -69,7 +69,7 @@ module _ (all : List (List Point)) (each : All IsStretch all) (clear : AllPairs 
 
   -- ---- all pieces
 
-  way-once : (edge : Edge) (way : List Point) → GoesAlong all edge way → AreDistinct (pieces way)
+  pub way-once : (edge : Edge) (way : List Point) → GoesAlong all edge way → AreDistinct (pieces way)
   way-once edge way goes = elim (way-kind all each clear edge way goes) [
     | inl long ↦ way-distinct way (long-rises all each clear edge way long)
     | inr alone ↦ subst AreDistinct (sym alone.is) single

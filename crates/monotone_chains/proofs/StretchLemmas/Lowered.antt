@@ -109,7 +109,7 @@ pub record IsShiftOf (points : List Point) (point other : RationalPoint) : Type 
       → along (u +ℤ u) (v +ℤ v) other.x other.y ≤ℤ (pos other.n *ℤ half_more u v k)
 
 -- each point is in its own column
-moved-itself : (point : RationalPoint) → IsMoved point point
+pub moved-itself : (point : RationalPoint) → IsMoved point point
 moved-itself point = record {
   m = 1;
   some = omega arith;

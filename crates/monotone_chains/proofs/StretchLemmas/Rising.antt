@@ -18,7 +18,7 @@ use Rattle.noding.proofs.SnapLemmas.Windings.{after, before, under-right, windin
 
 -- ---- the last of some points
 
-abbrev last_of : Point → List Point → Point
+abbrev pub last_of : Point → List Point → Point
 last_of from [] = from
 last_of from (to ∷ others) = last_of to others
 
@@ -27,7 +27,7 @@ ring_last from [] = refl
 ring_last from (to ∷ others) = ring_last to others
 
 -- a chord ends there
-chord-last : (from : Point) (others : List Point) → (chord (from ∷ others)).x1 ≡ (last_of from others).x
+pub chord-last : (from : Point) (others : List Point) → (chord (from ∷ others)).x1 ≡ (last_of from others).x
 chord-last from others =
     let one : length (from ∷ others) - 1 ≡ length others = omega arith in
     ap (λ (k : ℕ). (ring_point (from ∷ others) k).x) one ∙ ap (λ (p : Point). p.x) (ring_last from others)

@@ -13,8 +13,8 @@ use Rattle.noding.specs.Windings.{pieces, winding}
 use Rattle.monotone_chains.specs.Stretches.{AreClear, IsLong, IsStretch, Rises, chord}
 use Rattle.monotone_chains.proofs.StretchLemmas.Aside.{edge-aside, points-aside}
 use Rattle.monotone_chains.proofs.StretchLemmas.Boxes.{ClearIfLong, clear-any, long-ways}
-use Rattle.monotone_chains.proofs.StretchLemmas.Columns.{AreAside, rising-aside, winding-aside}
-use Rattle.monotone_chains.proofs.StretchLemmas.Lowered.{IsShiftOf, shift-rising}
+use Rattle.monotone_chains.proofs.StretchLemmas.Columns.{AreAside, IsMoved, rising-aside, winding-aside}
+use Rattle.monotone_chains.proofs.StretchLemmas.Lowered.{IsShiftOf, moved-itself, shift-rising}
 use Rattle.monotone_chains.proofs.StretchLemmas.Placed.{LiesIn}
 use Rattle.monotone_chains.proofs.StretchLemmas.Reverse.{Contains-reversed, Rises-reverse}
 use Rattle.monotone_chains.proofs.StretchLemmas.Turned.{turned-back}
@@ -23,9 +23,10 @@ use Rattle.monotone_chains.proofs.StretchLemmas.Turned.{turned-back}
 abbrev pub Matches : List Point → RationalPoint → RationalPoint → Type 0
 Matches points point other = winding (pieces points) point ≡ winding (chord points ∷ []) other
 
--- For the other point the chord of each long stretch counts what the stretch counts for the point, and what lies along a stretch of a single
--- edge counts the same for both.
+-- The other point stands in the point's column. For it the chord of each long stretch counts what the stretch counts for the point,
+-- and what lies along a stretch of a single edge counts the same for both.
 pub record IsShift (all : List (List Point)) (point other : RationalPoint) : Type 0 where
+  pub moved : IsMoved point other
   pub long : (s : List Point) → Contains all s → IsLong s → Matches s point other
   pub short : (edge : Edge) (t : List Point) → Contains all t → ¬ (IsLong t) → LiesIn t edge → winding (edge ∷ []) point ≡ winding (edge ∷ []) other
 
@@ -74,6 +75,7 @@ module _ (all : List (List Point)) (each : All IsStretch all) (clear : AllPairs 
   -- where all match, the point stands for itself
   itself : All (λ s. IsLong s → Matches s point point) all → IsShift all point point
   itself match = record {
+    moved = moved-itself point;
     long = λ s among long. All-contains (λ (t : List Point). IsLong t → Matches t point point) all s match among long;
     short = λ edge t among short lies. refl;
   }
@@ -101,6 +103,7 @@ module _ (all : List (List Point)) (each : All IsStretch all) (clear : AllPairs 
 
     shifted : IsShift all point other
     shifted = record {
+      moved = shift.moved;
       long = λ t among_too long_too. ⊎_elim (λ same. subst (λ (u : List Point). Matches u point other) same (r.matches point other shift.same)) (others t among_too long_too) (clear_of t among_too);
       short = λ edge t among_too short lies. winding-aside point other shift.moved edge
           (⊎_elim (λ same. absurd (short (subst IsLong same long))) (λ apart. edge-aside s r.points r.of r.some point other shift t (is_stretch t among_too) apart edge lies) (clear_of t among_too));

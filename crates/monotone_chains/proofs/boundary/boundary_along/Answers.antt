@@ -10,7 +10,9 @@ use Rattle.noding.specs.Windings.{IsClosed}
 use Rattle.monotone_chains.specs.Stretches.{IsStretch, IsWidened, chord}
 use Rattle.monotone_chains.specs.Stretches.Cut.{IsPart, way}
 use Rattle.monotone_chains.specs.declared.stretches.parts.Part.{Part}
+use Rattle.overlay.proofs.Callers.{bounds-nest, filled-bounds}
 use Rattle.monotone_chains.proofs.StretchLemmas.Callers.{chords-closed, widened-boundary}
+use Rattle.monotone_chains.proofs.StretchLemmas.Nested.{nest-widened}
 use Rattle.monotone_chains.proofs.boundary.boundary_along.Goals as goal
 
 -- of all chords the subject's are the first ones, and the clip's the others
@@ -74,7 +76,7 @@ returns-clause-ok g c = λ subject clip cut.
     let second = clip-chords parts count c.deref-2.result.now c.in_ok-chords.chords.items c.deref-2.ensures.value told in
     let (broken, broken_clip, are_broken, filled) = c.in_ok-bounding.ensures.filled in
     let of_chords = subst₂ (λ (one other : List Edge). AreBroken one other broken broken_clip) first second are_broken in
-    let (rings, contours, points_are, ends_are) = c.in_ok-contours_in_place.ensures.ok in
+    let (rings, contours, points_are, ends_are, sides) = c.in_ok-contours_in_place.ensures.ok in
     let none = c.in_ok-rings.ensures.items in
     let points = c.deref-4.ensures.value ∙ points_are ∙ ap (λ (before : List Point). before ++ flat_map (λ ring. ring) rings) none in
     let ends = c.deref-5.ensures.value ∙ ends_are ∙ ap (λ before. before ++ offsets (length c.in_ok-rings.rings.items) rings) c.new-ends.ensures.items ∙ ap (λ (before : List Point). offsets (length before) rings) none in
@@ -83,4 +85,9 @@ returns-clause-ok g c = λ subject clip cut.
     let (boundary, sloped) =
     widened-boundary c.args.choice.rule c.args.choice.operation subject clip (map way (take count parts)) (map way (drop count parts)) are broken broken_clip of_chords c.in_ok-bounding.bounding.items filled rings contours widened
     (subst (λ (stretches : List (List Point)). AllZip (IsWidened stretches) rings widened) ways wide) in
-    (widened, boundary, sloped, widened_points, widened_ends))
+    let bounds = filled-bounds (map chord (map way (take count parts))) (map chord (map way (drop count parts))) broken broken_clip of_chords c.args.choice.rule c.args.choice.operation c.in_ok-bounding.bounding.items filled in
+    let nest =
+    nest-widened c.args.choice.rule c.args.choice.operation subject clip (map way (take count parts)) (map way (drop count parts)) are broken broken_clip of_chords c.in_ok-bounding.bounding.items filled rings contours widened
+    (subst (λ (stretches : List (List Point)). AllZip (IsWidened stretches) rings widened) ways wide)
+    (bounds-nest c.args.choice.rule c.args.choice.operation (map chord (map way (take count parts))) (map chord (map way (drop count parts))) c.in_ok-bounding.bounding.items bounds rings contours sides) in
+    (widened, boundary, sloped, nest, widened_points, widened_ends))
