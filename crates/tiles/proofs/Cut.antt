@@ -13,10 +13,12 @@ use Rattle.overlay.specs.Boundary.{AreBroken, IsBoundary}
 use Rattle.overlay.specs.Contours.Outlines.{AreOutlines, outline}
 use Rattle.overlay.specs.Contours.Rings.{AreContours, ring_edges}
 use Rattle.overlay.specs.Fill.Filled.{IsEndOfSloped, IsFilled}
+use Rattle.overlay.specs.Nesting.{NestOnce, PolygonWindsOnce}
 use Rattle.overlay.specs.Overlay.{IsOverlay}
 use Rattle.overlay.specs.Polygons.{BoundsSome, IsPolygon, rings_of}
 use Rattle.overlay.specs.Rings.{real_edges}
-use Rattle.overlay.proofs.Callers.{HasSloped-next, HasSloped-permuted, bounds-some, filled-bounds, map-joined, outlines-sloped, outlines-wind, polygons-overlay, real-all, rings-bound, winding-contours}
+use Rattle.overlay.specs.Sides.{AreBorders, KeepSides}
+use Rattle.overlay.proofs.Callers.{HasSloped-next, HasSloped-permuted, bounds-nest, bounds-some, filled-bounds, map-joined, outlines-sloped, outlines-wind, polygons-overlay, real-all, rings-bound, winding-contours}
 use Rattle.tiles.specs.Tile.{HasSlopedEnds, border}
 use Rattle.tiles.specs.Window.{HasPoints}
 use Rattle.tiles.specs.declared.window.Window.{Window}
@@ -48,19 +50,23 @@ module _ (rule : FillRule) (operation : Operation) (subject clip broken broken_c
   pub rings-boundary : IsBoundary rule operation (real_edges subject) (real_edges clip) rings
   rings-boundary = rings-bound rule operation (real_edges subject) (real_edges clip) edges rings (filled-bounds (real_edges subject) (real_edges clip) broken broken_clip are rule operation edges filled) contours
 
+  -- and nest once, where they keep sides
+  pub rings-nest : (AreBorders edges → KeepSides edges rings) → NestOnce rings
+  rings-nest = bounds-nest rule operation (real_edges subject) (real_edges clip) edges (filled-bounds (real_edges subject) (real_edges clip) broken broken_clip are rule operation edges filled) rings contours
+
   -- so their edges bound something
   pub rings-some : BoundsSome (flat_map ring_edges rings)
   rings-some =
       bounds-some rule operation (real_edges subject) (real_edges clip) (flat_map ring_edges rings) rings-boundary.bounds
       (HasSloped-permuted (flat_map ring_edges rings) edges contours.all (HasSloped-next edges filled.vertical))
 
-  module _ (whole : List (List (List Point))) (directed : All IsPolygon whole) (same : AreContours (flat_map ring_edges rings) (rings_of whole)) where
+  module _ (whole : List (List (List Point))) (directed : All IsPolygon whole) (same : AreContours (flat_map ring_edges rings) (rings_of whole)) (each : All PolygonWindsOnce whole) where
     abbrev outlined : List (List (List Point))
     outlined = map (λ polygon. map outline polygon) whole
 
     -- polygons of them are an overlay
     pub cut-overlay : IsOverlay rule operation subject clip outlined
-    cut-overlay = polygons-overlay rule operation subject clip (flat_map ring_edges rings) whole rings-boundary.bounds directed same
+    cut-overlay = polygons-overlay rule operation subject clip (flat_map ring_edges rings) whole rings-boundary.bounds directed same each
 
     -- each point of which is an end of an edge that isn't vertical
     pub cut-sloped : HasSlopedEnds edges outlined

@@ -146,6 +146,8 @@ module _ (window : Window) (rule : FillRule) (operation : Operation) (subject cl
       outside = none-outside;
       uncrossed = λ one other x y first second. none-crosses one other x y (edges-passing (comes_to_border window) tile one first) (edges-passing (comes_to_border window) tile other second);
     };
+    each_once = is_cut.each_once;
+    each_area = is_cut.each_area;
     within = polygons-within window bounds tile has none-outside;
     exact = λ point within counts.
         same-within point within

@@ -1,5 +1,5 @@
 -- What an overlay within a window is.
-use Rattle.std.specs.Prelude.{◌≡◌, ◌⊎◌, ◌++◌, ◌∷◌, [], ⊤, ℕ, List, All, Contains, codes}
+use Rattle.std.specs.Prelude.{◌≡◌, ◌⊎◌, ◌++◌, ◌∷◌, ◌<ℤ◌, [], ⊤, ℕ, pos, List, All, Contains, codes}
 use Rattle.plane.specs.declared.edge.Edge.{Edge}
 use Rattle.plane.specs.declared.point.Point.{Point}
 use Rattle.plane.specs.Lines.{IsAlongAxis}
@@ -8,9 +8,11 @@ use Rattle.noding.specs.Near.{CountsExactly, IsNear}
 use Rattle.noding.specs.Windings.{IsClosed, winding}
 use Rattle.overlay.specs.declared.fill.rules.FillRule.{FillRule}
 use Rattle.overlay.specs.declared.fill.rules.Operation.{Operation}
+use Rattle.overlay.specs.Areas.{twice_area_of}
 use Rattle.overlay.specs.Boundary.{BoundsResult, result_at}
 use Rattle.overlay.specs.Contours.Rings.{ring_edges}
 use Rattle.overlay.specs.Fill.Filled.{AreDistinct, AreNoded, IsEndOfSloped}
+use Rattle.overlay.specs.Nesting.{PolygonWindsOnce}
 use Rattle.overlay.specs.Overlay.{polygon_edges}
 use Rattle.overlay.specs.Polygons.{rings_of}
 use Rattle.overlay.specs.Rings.{real_edges}
@@ -37,6 +39,9 @@ turned_border window =
 -- Polygons in the window, around the points of the result that lie in it.
 pub record IsTile (window : Window) (rule : FillRule) (operation : Operation) (subject clip : List Edge) (polygons : List (List (List Point))) : Type 0 where
   pub part : IsPart window polygons
+  -- each polygon by itself winds once around a point or not at all, and has an area above 0
+  pub each_once : All PolygonWindsOnce polygons
+  pub each_area : All (λ polygon. pos 0 <ℤ twice_area_of polygon) polygons
   -- all points of the polygons lie in the window or on its sides
   pub within : All (λ ring. All (IsWithin window) ring) (rings_of polygons)
   -- in the window as the result, if each edge given runs along an axis or isn't near the point
