@@ -43,11 +43,11 @@ pub(crate) fn stretches_along<'a, A: Allocator + Copy>(
     }
     let most = longest_of(edges);
     let mut parts = Vec::new(alloc);
-    if !append_rings(subject, most, edges / 8, &mut parts)? {
+    if !append_rings(subject, most, edges / 6, &mut parts)? {
         return Ok(None);
     }
     let count = parts.len();
-    if !append_rings(clip, most, edges / 8, &mut parts)? {
+    if !append_rings(clip, most, edges / 6, &mut parts)? {
         return Ok(None);
     }
     let stretches = stretches_of(alloc, &parts, count, edges)?;

@@ -1,4 +1,5 @@
 pub mod BackLemmas
+pub mod ChainedLemmas
 pub mod CircleLemmas
 pub mod CoverLemmas
 pub mod DiamondLemmas

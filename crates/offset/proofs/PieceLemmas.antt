@@ -2,6 +2,7 @@
 pub mod Bands
 pub mod Closed
 pub mod Convex
+pub mod Joints
 pub mod Parts
 pub mod Rounds
 pub mod Shifts

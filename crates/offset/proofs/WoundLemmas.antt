@@ -16,6 +16,7 @@ use Rattle.overlay.specs.Boundary.{BoundsResult, IsBoundary}
 use Rattle.overlay.specs.Contours.Outlines.{AreOutlines, outline}
 use Rattle.overlay.specs.Contours.Rings.{AreContours, real_edges, ring_edges}
 use Rattle.overlay.specs.Fill.Rules.{is_result}
+use Rattle.overlay.specs.Nesting.{PolygonWindsOnce}
 use Rattle.overlay.specs.Overlay.{polygon_edges}
 use Rattle.overlay.specs.Polygons.{HasSignedArea, IsPolygon, rings_of}
 use Rattle.overlay.proofs.AreaLemmas.Rings.{boundary-signed, outlines-signed}
@@ -25,7 +26,8 @@ use Rattle.overlay.proofs.ContourLemmas.Counts.{rings-closed}
 use Rattle.overlay.proofs.GroupingLemmas.Corners.{rings-corners}
 use Rattle.overlay.proofs.GroupingLemmas.Grouped.{map-joined}
 use Rattle.overlay.proofs.GroupingLemmas.Outlined.{outlines-run, polygons-outlined}
-use Rattle.overlay.proofs.OverlayLemmas.{exact-real}
+use Rattle.overlay.proofs.OverlayLemmas.{exact-real, outlines-each}
+use Rattle.overlay.proofs.WindsLemmas.Areas.{polygons-area}
 use Rattle.offset.specs.Faults.{IsPointFault, IsRawFault}
 use Rattle.offset.specs.Minkowski.{IsAround, IsErosion, IsErosionFault, IsGrown, IsMinkowski, IsShrunk, IsSumFault, IsWound}
 use Rattle.offset.specs.Lines.{AreGrownLines, IsOfPaths, raw_of_paths}
@@ -41,8 +43,8 @@ use Rattle.offset.specs.declared.fault.MinkowskiFault.{MinkowskiFault}
 use Rattle.offset.specs.declared.fault.MinkowskiFault.TheVariants.{Lengths, Shape, Range, OutOfMemory}
 
 -- Polygons of edges that bound what is inside of others.
-pub polygons-wound : (rule : FillRule) (raw edges : List Edge) (whole : List (List (List Point))) → BoundsResult rule Union raw [] edges → All IsPolygon whole → AreContours edges (rings_of whole) → IsWound rule raw (map (λ polygon. map outline polygon) whole)
-polygons-wound rule raw edges whole bounds directed are =
+pub polygons-wound : (rule : FillRule) (raw edges : List Edge) (whole : List (List (List Point))) → BoundsResult rule Union raw [] edges → All IsPolygon whole → AreContours edges (rings_of whole) → All PolygonWindsOnce whole → IsWound rule raw (map (λ polygon. map outline polygon) whole)
+polygons-wound rule raw edges whole bounds directed are each =
     let outlines = subst (AreOutlines edges) (sym (map-joined outline whole)) (outlines-wind edges (rings_of whole) are) in
     let polygons = map (λ polygon. map outline polygon) whole in
     let boundary = rings-bound rule Union raw [] edges (rings_of whole) bounds are in
@@ -54,6 +56,8 @@ polygons-wound rule raw edges whole bounds directed are =
           (rings-corners (flat_map ring_edges (rings_of whole)) boundary.bounds.noded boundary.bounds.two_ends (rings_of whole) are.each (λ edge among. among) boundary.bounds.distinct);
       directed = polygons-outlined whole alike directed;
       areas = subst (All HasSignedArea) (sym (map-joined outline whole)) (outlines-signed (rings_of whole) alike (boundary-signed rule Union raw [] (rings_of whole) boundary));
+      each_once = outlines-each whole each;
+      each_area = polygons-area whole directed are.each boundary.bounds.noded boundary.bounds.distinct boundary.bounds.two_ends each;
       everywhere = everywhere;
       once = winds-once rule Union raw [] (polygon_edges polygons) everywhere;
       exact = λ point exactly. winds-exactly rule Union raw [] (polygon_edges polygons) everywhere point (subst (λ (edges : List Edge). All (IsExactAt edges point) edges) (sym (append-nil raw)) exactly);
@@ -100,6 +104,8 @@ around-of region raw polygons wound winds = record {
   three_points = wound.three_points;
   directed = wound.directed;
   areas = wound.areas;
+  each_once = wound.each_once;
+  each_area = wound.each_area;
   once = wound.once;
   exact = λ point off exactly. ⊎_elim
       (λ (found : region point × (pos 0 <ℤ winding raw point)). inl (found.0, wound.exact point exactly ∙ one (winding raw point) found.1))
@@ -137,6 +143,8 @@ erosion-of corners convex rings bounds outside polygons wound = record {
   three_points = wound.three_points;
   directed = wound.directed;
   areas = wound.areas;
+  each_once = wound.each_once;
+  each_area = wound.each_area;
   once = wound.once;
   exact = λ point off exactly. ⊎_elim
       (λ (found : IsOfErosion (flat_map ring_edges rings) corners point × (winding (raw_inside corners rings) point ≡ negsuc 0)). inl (found.0, wound.exact point exactly ∙ one (winding (raw_inside corners rings) point) found.1))

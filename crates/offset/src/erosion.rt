@@ -127,7 +127,8 @@ fn raw_of_rings_back<A: Allocator + Copy>(
     points: &[Point],
     ends: &[usize],
 ) -> Result<Vec<Edge, A>, MinkowskiFault>
-    requires { AreEnds 0 ends.now (length points.now) }
+    requires ends { AreEnds 0 ends.now (length points.now) }
+    requires shape { IsConvexAroundOrigin shape.now }
     ensures ok { IfOk result (λ raw. raw.items ≡ raw_edges shape.now (map backwards (rings_of points.now 0 ends.now))) }
     ensures fault { IfErr result (IsRawFault (raw_edges shape.now (map backwards (rings_of points.now 0 ends.now)))) }
 {

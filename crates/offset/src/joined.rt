@@ -123,7 +123,8 @@ fn joined_of_rings<A: Allocator>(
     points: &[Point],
     ends: &[usize],
 ) -> Result<Vec<Edge, A>, MinkowskiFault>
-    requires { AreEnds 0 ends.now (length points.now) }
+    requires ends { AreEnds 0 ends.now (length points.now) }
+    requires shape { IsConvexAroundOrigin shape.now }
     ensures ok { IfOk result (λ raw. raw.items ≡ joined_edges join shape.now (rings_of points.now 0 ends.now)) }
     ensures fault { IfErr result (IsRawFault (joined_edges join shape.now (rings_of points.now 0 ends.now))) }
 {

@@ -5,6 +5,7 @@ ghost use Rattle.plane.specs.Ends.{end_of};
 ghost use Rattle.offset.specs.Faults.{IsRawFault};
 ghost use Rattle.offset.specs.Joins.{bevel, bevelled_joint, joined_of_ring, joined_of_two};
 ghost use Rattle.offset.specs.Raw.{moved_edge};
+ghost use Rattle.offset.specs.Shape.{IsConvexAroundOrigin};
 
 use crate::circles::swept;
 use crate::fault::MinkowskiFault;
@@ -34,32 +35,36 @@ pub fn append_joined_of_ring<A: Allocator>(
     join: Join,
     edges: &mut Vec<Edge, A>,
 ) -> Result<(), MinkowskiFault>
+    requires { IsConvexAroundOrigin corners.now }
     ensures ok { OnOk result (edges.new.items ≡ edges.old.items ++ joined_of_ring join corners.now ring.now) }
     ensures fault { IfErr result (IsRawFault (joined_of_ring join corners.now ring.now)) }
 {
+    let mut near = 0;
     for index in 0..ring.len() {
         let edge = side_at(ring, index);
         let next = side_at(ring, next_place(index, ring.len()));
-        append_joined_of_two(corners, edge, next, join, edges)?;
+        append_joined_of_two(corners, edge, next, join, &mut near, edges)?;
     }
     Ok(())
 }
 
-// Appends that of an edge and the next one.
+// Appends that of an edge and the next one, whose furthest corners are looked for at the place `near` first.
 fn append_joined_of_two<A: Allocator>(
     corners: &[Point],
     edge: Edge,
     next: Edge,
     join: Join,
+    near: &mut usize,
     edges: &mut Vec<Edge, A>,
 ) -> Result<(), MinkowskiFault>
+    requires { IsConvexAroundOrigin corners.now }
     ensures ok { OnOk result (edges.new.items ≡ edges.old.items ++ joined_of_two join corners.now (edge, next)) }
     ensures fault { IfErr result (IsRawFault (joined_of_two join corners.now (edge, next))) }
 {
     match join {
-        Join::Round => append_raw_of_two(corners, edge, next, edges),
+        Join::Round => append_raw_of_two(corners, edge, next, near, edges),
         Join::Bevel => append_bevelled(corners, edge, next, edges),
-        Join::Mitre(limit) => append_mitred(corners, edge, next, limit, edges),
+        Join::Mitre(limit) => append_mitred(corners, edge, next, limit, near, edges),
     }
 }
 
@@ -69,12 +74,14 @@ fn append_mitred<A: Allocator>(
     edge: Edge,
     next: Edge,
     limit: u32,
+    near: &mut usize,
     edges: &mut Vec<Edge, A>,
 ) -> Result<(), MinkowskiFault>
+    requires { IsConvexAroundOrigin corners.now }
     ensures ok { OnOk result (edges.new.items ≡ edges.old.items ++ joined_of_two (Join.Mitre limit) corners.now (edge, next)) }
     ensures fault { IfErr result (IsRawFault (joined_of_two (Join.Mitre limit) corners.now (edge, next))) }
 {
-    append_raw_of_two(corners, edge, next, edges)?;
+    append_raw_of_two(corners, edge, next, near, edges)?;
     append_mitre(corners, edge, next, limit, edges)
 }
 

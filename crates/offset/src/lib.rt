@@ -3,6 +3,7 @@
 #![tactic(auto)]
 
 mod angular;
+mod chained;
 mod circles;
 mod erosion;
 mod fault;

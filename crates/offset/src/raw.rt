@@ -1,12 +1,13 @@
 //! The raw curve around the sum of rings and a shape.
 
-ghost use Rattle.std.specs.Prelude.{◌≡◌, ◌<◌, ◌++◌, ◌∷◌, [], IfErr, IfOk, OnOk, filter, map};
+ghost use Rattle.std.specs.Prelude.{◌≡◌, ◌<◌, ◌++◌, ◌∷◌, [], IfErr, IfOk, OnOk, filter, length, map};
 ghost use Rattle.plane.specs.Ends.{edge_between, end_of};
 ghost use Rattle.overlay.specs.Contours.Rings.{has_two_ends};
 ghost use Rattle.offset.specs.declared.fault.MinkowskiFault.TheVariants.{Range};
 ghost use Rattle.offset.specs.Faults.{IsRawFault};
+ghost use Rattle.offset.specs.Near.{corner_behind, sides_at};
 ghost use Rattle.offset.specs.Raw.{IsPointIn32Bits, fan, furthest, is_furthest, is_of_fan, joint, moved, moved_edge, raw_of_ring, raw_of_two, ways, ways_by};
-ghost use Rattle.offset.specs.Shape.{sides};
+ghost use Rattle.offset.specs.Shape.{IsConvexAroundOrigin, sides};
 
 use crate::fault::MinkowskiFault;
 use crate::shape::{next_place, side_at, turn};
@@ -20,28 +21,51 @@ pub fn append_raw_of_ring<A: Allocator>(
     ring: &[Point],
     edges: &mut Vec<Edge, A>,
 ) -> Result<(), MinkowskiFault>
+    requires { IsConvexAroundOrigin corners.now }
     ensures ok { OnOk result (edges.new.items ≡ edges.old.items ++ raw_of_ring corners.now ring.now) }
     ensures fault { IfErr result (IsRawFault (raw_of_ring corners.now ring.now)) }
 {
+    let mut near = 0;
     for index in 0..ring.len() {
         let edge = side_at(ring, index);
         let next = side_at(ring, next_place(index, ring.len()));
-        append_raw_of_two(corners, edge, next, edges)?;
+        append_raw_of_two(corners, edge, next, &mut near, edges)?;
     }
     Ok(())
 }
 
-/// Appends that of an edge and the next one.
+/// Appends that of an edge and the next one. The furthest corner of the edge is looked for at the place `near` first, and that of
+/// the next one there from then on.
 pub fn append_raw_of_two<A: Allocator>(
+    corners: &[Point],
+    edge: Edge,
+    next: Edge,
+    near: &mut usize,
+    edges: &mut Vec<Edge, A>,
+) -> Result<(), MinkowskiFault>
+    requires { IsConvexAroundOrigin corners.now }
+    ensures ok { OnOk result (edges.new.items ≡ edges.old.items ++ raw_of_two corners.now (edge, next)) }
+    ensures fault { IfErr result (IsRawFault (raw_of_two corners.now (edge, next))) }
+{
+    let from = furthest_near(corners, edge, near);
+    push_moved(from, edge, edges)?;
+    if differ(from, furthest_near(corners, next, near)) {
+        append_joint(corners, edge, next, edges)
+    } else {
+        Ok(())
+    }
+}
+
+// Appends what joins the edge, moved, with the next one.
+fn append_joint<A: Allocator>(
     corners: &[Point],
     edge: Edge,
     next: Edge,
     edges: &mut Vec<Edge, A>,
 ) -> Result<(), MinkowskiFault>
-    ensures ok { OnOk result (edges.new.items ≡ edges.old.items ++ raw_of_two corners.now (edge, next)) }
-    ensures fault { IfErr result (IsRawFault (raw_of_two corners.now (edge, next))) }
+    ensures ok { OnOk result (edges.new.items ≡ edges.old.items ++ joint corners.now edge next) }
+    ensures fault { IfErr result (IsRawFault (joint corners.now edge next)) }
 {
-    push_moved(furthest(corners, edge), edge, edges)?;
     if turn(edge, next) > 0 {
         append_fan(corners, edge, next, edges)
     } else {
@@ -102,8 +126,8 @@ fn append_ways_by<A: Allocator>(
     Ok(())
 }
 
-// Whether these are two points.
-fn differ(one: Point, other: Point) -> bool
+/// Whether these are two points.
+pub fn differ(one: Point, other: Point) -> bool
     ensures { result ≡ has_two_ends (edge_between one other) }
 {
     one.x != other.x || one.y != other.y
@@ -113,13 +137,54 @@ fn differ(one: Point, other: Point) -> bool
 pub fn furthest(corners: &[Point], edge: Edge) -> Point
     ensures { result ≡ furthest corners.now edge }
 {
+    corner_behind(corners, furthest_place(corners, edge))
+}
+
+// The same, where it may well stand behind the side at this place: so it is looked for there first. Then that is the place where it
+// was found.
+fn furthest_near(corners: &[Point], edge: Edge, near: &mut usize) -> Point
+    requires { IsConvexAroundOrigin corners.now }
+    ensures { result ≡ furthest corners.now edge }
+{
+    let place = *near;
+    if place < corners.len() && is_furthest_at(corners, edge, place) {
+        return corner_behind(corners, place);
+    }
+    let found = furthest_place(corners, edge);
+    *near = found;
+    corner_behind(corners, found)
+}
+
+// The place of the side behind which the furthest corner stands, or the one behind all where there is none.
+fn furthest_place(corners: &[Point], edge: Edge) -> usize
+    ensures { corner_behind corners.now result ≡ furthest corners.now edge }
+{
     for index in 0..corners.len() {
-        let next = next_place(index, corners.len());
-        if is_furthest(edge, side_at(corners, index), side_at(corners, next)) {
-            return corners[next];
+        if is_furthest_at(corners, edge, index) {
+            return index;
         }
     }
-    Point { x: 0, y: 0 }
+    corners.len()
+}
+
+// The corner behind the side at this place, or the origin where there is no such side.
+fn corner_behind(corners: &[Point], place: usize) -> Point
+    ensures { result ≡ corner_behind corners.now place }
+{
+    if place < corners.len() {
+        corners[next_place(place, corners.len())]
+    } else {
+        Point { x: 0, y: 0 }
+    }
+}
+
+// Whether the corner behind the side at this place is the furthest.
+fn is_furthest_at(corners: &[Point], edge: Edge, place: usize) -> bool
+    requires { place < length corners.now }
+    ensures { result ≡ is_furthest edge (sides_at corners.now place) }
+{
+    let next = next_place(place, corners.len());
+    is_furthest(edge, side_at(corners, place), side_at(corners, next))
 }
 
 // Whether the corner between the sides is.

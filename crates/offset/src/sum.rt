@@ -15,15 +15,17 @@ ghost use Rattle.offset.specs.Minkowski.{IsGrown, IsSumFault, IsWound};
 ghost use Rattle.offset.specs.Raw.{IsIn32Bits, raw_edges};
 ghost use Rattle.offset.specs.Shape.{IsConvexAroundOrigin};
 
+use crate::chained::append_boundary_of;
 use crate::fault::MinkowskiFault;
 use crate::raw::append_raw_of_ring;
 use crate::shape::is_convex_around_origin;
 use i_tree::Refusal;
 use i_tree::status::exp::StatusCollection;
-use overlay::boundary::boundary;
+use monotone_chains::call::ByChains;
+use overlay::call::Bounding;
 use overlay::fill::{Choice, FillRule, Operation};
 use overlay::grouping::append_polygons;
-use overlay::rings::{are_ends, real_edges_of, ring_at};
+use overlay::rings::{Operands, are_ends, ring_at};
 use overlay::{Polygons, Rings};
 use plane::edge::Edge;
 use plane::point::Point;
@@ -137,18 +139,20 @@ where
         × AreJoined rings made.0.items made.1.items) }
     ensures empty { OnOk result (C.stored status.new ≡ []) }
 {
-    let nothing = Rings {
-        points: &[],
-        ends: &[],
+    let operands = Operands {
+        subject: polygons,
+        clip: Rings {
+            points: &[],
+            ends: &[],
+        },
     };
-    let (edges, count) = real_edges_of(alloc, polygons, nothing)?;
     let choice = Choice {
         rule,
         operation: Operation::Union,
     };
     let mut points = Vec::new(alloc);
     let mut ends = Vec::new(alloc);
-    boundary(&edges, count, choice, status, &mut points, &mut ends)?;
+    ByChains.append_boundary(operands, choice, status, &mut points, &mut ends)?;
     Ok((points, ends))
 }
 
@@ -159,7 +163,8 @@ fn raw_of_rings<A: Allocator>(
     points: &[Point],
     ends: &[usize],
 ) -> Result<Vec<Edge, A>, MinkowskiFault>
-    requires { AreEnds 0 ends.now (length points.now) }
+    requires ends { AreEnds 0 ends.now (length points.now) }
+    requires shape { IsConvexAroundOrigin shape.now }
     ensures ok { IfOk result (λ raw. raw.items ≡ raw_edges shape.now (rings_of points.now 0 ends.now)) }
     ensures fault { IfErr result (IsRawFault (raw_edges shape.now (rings_of points.now 0 ends.now))) }
 {
@@ -192,6 +197,6 @@ where
     let alloc = *out.points.allocator();
     let mut points = Vec::new(alloc);
     let mut ends = Vec::new(alloc);
-    boundary(edges, edges.len(), choice, status, &mut points, &mut ends)?;
+    append_boundary_of(edges, choice, status, &mut points, &mut ends)?;
     append_polygons(status, &points, &ends, out)
 }

@@ -1,4 +1,4 @@
-use Rattle.std.proofs.Common.{◌≡◌, ◌∙◌, [], List, ap₂, map, subst₂, sym}
+use Rattle.std.proofs.Common.{◌≡◌, ◌∙◌, [], List, ap₂, map, subst, subst₂, sym}
 use Rattle.std.proofs.lemmas.Result.{IfErr-weaker, IfOk-weaker}
 use Rattle.plane.specs.declared.point.Point.{Point}
 use Rattle.noding.specs.Offsets.{AreJoined}
@@ -9,16 +9,21 @@ use Rattle.overlay.proofs.Callers.{AreEnds-joined, rings-joined}
 use Rattle.offset.specs.Faults.{IsRawFault}
 use Rattle.offset.specs.Minkowski.{IsErosionFault}
 use Rattle.offset.specs.Raw.{backwards, raw_edges, raw_inside}
-use Rattle.offset.specs.Shape.{opposite_shape}
+use Rattle.offset.specs.Shape.{IsConvexAroundOrigin, opposite_shape}
+use Rattle.offset.proofs.OppositeLemmas.{convex-opposite}
 use Rattle.offset.proofs.RawLemmas.{handed-on}
 use Rattle.offset.proofs.WoundLemmas.{fails-turned, fails-within}
 use Rattle.offset.proofs.erosion.raw_within.Goals as goal
 
-pub raw_of_rings_back-requires : goal.raw_of_rings_back-requires
-raw_of_rings_back-requires g c =
+pub raw_of_rings_back-requires-clause-ends : goal.raw_of_rings_back-requires-clause-ends
+raw_of_rings_back-requires-clause-ends g c =
     let (rings, _, joined) = c.in_ok-points.ensures.ok in
     AreEnds-joined rings c.deref-2.result.now c.deref-3.result.now
     (subst₂ (AreJoined rings) (sym c.deref-2.ensures.value) (sym c.deref-3.ensures.value) joined)
+
+pub raw_of_rings_back-requires-clause-shape : goal.raw_of_rings_back-requires-clause-shape
+raw_of_rings_back-requires-clause-shape g c =
+    subst IsConvexAroundOrigin (sym (c.deref.ensures.value ∙ c.in_ok-turned.ensures.ok)) (convex-opposite c.args.shape.now c.requires.shape)
 
 -- the rings that were made are those of the points
 pub returns-clause-ok : goal.returns-clause-ok

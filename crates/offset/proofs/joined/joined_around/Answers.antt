@@ -11,8 +11,8 @@ use Rattle.offset.specs.Joins.{IsJoinedFault, joined_edges}
 use Rattle.offset.proofs.JoinLemmas.Joined.{joined-fails}
 use Rattle.offset.proofs.joined.joined_around.Goals as goal
 
-pub joined_of_rings-requires : goal.joined_of_rings-requires
-joined_of_rings-requires g c =
+pub joined_of_rings-requires-clause-ends : goal.joined_of_rings-requires-clause-ends
+joined_of_rings-requires-clause-ends g c =
     let (rings, _, joined) = c.in_ok-points.ensures.ok in
     AreEnds-joined rings c.deref.result.now c.deref-2.result.now
     (subst₂ (AreJoined rings) (sym c.deref.ensures.value) (sym c.deref-2.ensures.value) joined)

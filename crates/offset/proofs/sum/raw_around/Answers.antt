@@ -12,8 +12,8 @@ use Rattle.offset.specs.Raw.{raw_edges}
 use Rattle.offset.proofs.WoundLemmas.{fails-so}
 use Rattle.offset.proofs.sum.raw_around.Goals as goal
 
-pub raw_of_rings-requires : goal.raw_of_rings-requires
-raw_of_rings-requires g c =
+pub raw_of_rings-requires-clause-ends : goal.raw_of_rings-requires-clause-ends
+raw_of_rings-requires-clause-ends g c =
     let (rings, _, joined) = c.in_ok-points.ensures.ok in
     AreEnds-joined rings c.deref.result.now c.deref-2.result.now
     (subst₂ (AreJoined rings) (sym c.deref.ensures.value) (sym c.deref-2.ensures.value) joined)
