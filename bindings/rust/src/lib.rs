@@ -44,7 +44,7 @@ mod offsets;
 mod tiles;
 mod wkb;
 
-/// The version of the library, as `"0.6.0"`.
+/// The version of the library, as `"0.7.0"`.
 pub fn version() -> &'static str {
     // SAFETY: the library answers a text that ends with 0 and stays.
     unsafe { CStr::from_ptr(calls::itree_version()) }
