@@ -200,9 +200,9 @@ void checks_pairs() {
     check("nothing is a pair", moved.empty() && !std::is_copy_constructible_v<itree::Pairs>);
     check("they are taken to another thread",
           std::async(std::launch::async, [it = std::move(pairs)] { return it.size(); }).get() == 1);
-    // A few edges are compared with one another, which takes next to no memory.
+    // Some hundred edges and fewer may be compared with one another, which takes next to no memory.
     std::vector<itree::Edge> many;
-    for (std::int32_t place = 0; place < 100; place++) many.push_back({0, place, 9, place + 1});
+    for (std::int32_t place = 0; place < 400; place++) many.push_back({0, place, 9, place + 1});
     std::size_t requests = 0;
     for (bool refused = true; refused; requests++) {
         refuse_after(requests);
