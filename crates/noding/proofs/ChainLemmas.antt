@@ -13,6 +13,7 @@ pub mod Local
 pub mod Moving
 pub mod Offsets
 pub mod Order
+pub mod Passed
 pub mod Runs
 pub mod Sections
 pub mod Spreading

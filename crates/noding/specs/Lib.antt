@@ -1,4 +1,5 @@
 -- Definitions of snap rounding: what a point rounds to, the chains that edges become, and what holds of these.
+pub mod Beside
 pub mod Chains
 pub mod Close
 pub mod Columns

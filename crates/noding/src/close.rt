@@ -5,13 +5,14 @@ ghost use Rattle.std.specs.Prelude.{◌≡◌, ◌⊎◌, ◌<◌, ◌^◌, true
 ghost use Rattle.i_tree.specs.declared.Refusal.TheVariants.{OutOfMemory};
 ghost use Rattle.plane.specs.Meet.Boxes.{bounds_of};
 ghost use Rattle.plane.specs.Pairs.Pairs.{ArePairs};
+ghost use Rattle.plane.specs.Pairs.Bounds.{BoundsMeet};
 ghost use Rattle.plane.specs.Meet.Crosses.{IsWithin};
-ghost use Rattle.noding.specs.Close.{ComeClose, HaveOnePoint, HoldsEnd, LieBeyond, PassesEnd, ShareEnd, item_of};
+ghost use Rattle.noding.specs.Close.{ComeClose, HaveOnePoint, HoldsEnd, LieApart, LieBeyond, PassesEnd, ShareEnd, item_of};
 
 use crate::passing::{is_end, is_in_box, may_pass_inside, passes_inside};
 use i_tree::Refusal;
 use plane::edge::{Edge, margin_of};
-use plane::meet::meet;
+use plane::pairs::boxes::boxes_meet;
 use plane::pairs::items::{Bounds, Boxed, Meets};
 use plane::pairs::{Budget, pairs_within_budget};
 use plane::vectors::{cross_product, vector_along, vector_between_starts};
@@ -72,20 +73,17 @@ fn come_close(one: Edge, other: Edge) -> bool
     if share_end(one, other) {
         return pass_beside(one, other);
     }
-    if meet(one, other) {
-        return true;
-    }
-    if lie_apart(one, other) {
+    if !boxes_meet(one.bounds(), other.bounds()) {
         return false;
     }
-    one_passes_end(one, other)
+    !lie_apart(one, other)
 }
 
-// Whether one of the edges lies so far to one side of the other's line that neither passes an end of the other one. Most edges
+// Whether one of the edges lies so far to one side of the other's line that there is no whole point that both pass. Most edges
 // whose boxes meet and that don't meet themselves lie so.
 #[inline(always)]
 fn lie_apart(one: Edge, other: Edge) -> bool
-    ensures { result ≡ true → ¬ (PassesEnd one other ⊎ PassesEnd other one) }
+    ensures { MatchBool result (LieApart one other) (¬ (LieApart one other)) }
 {
     let one_way = vector_along(one);
     let other_way = vector_along(other);
@@ -99,16 +97,16 @@ fn lie_apart(one: Edge, other: Edge) -> bool
     lie_beyond(second, second - whole, margin_of(one))
 }
 
-// Whether two heights over a line lie on the same side of it, and both beyond half its margin. All comparisons are made, since a
-// branch between them would be guessed wrongly often.
+// Whether two heights over a line lie on the same side of it, and both beyond its margin. All comparisons are made, since a branch
+// between them would be guessed wrongly often.
 fn lie_beyond(start: i128, end: i128, margin: i128) -> bool
     requires start { IsWithin (2 ^ 67) start }
     requires end { IsWithin (2 ^ 67) end }
     requires margin { IsWithin (2 ^ 33) margin }
-    ensures { result ≡ true → LieBeyond start end margin }
+    ensures { MatchBool result (LieBeyond start end margin) (¬ (LieBeyond start end margin)) }
 {
-    let above = (margin < start + start) & (margin < end + end);
-    let below = (start + start + margin < 0) & (end + end + margin < 0);
+    let above = (margin < start) & (margin < end);
+    let below = (start + margin < 0) & (end + margin < 0);
     above | below
 }
 

@@ -159,8 +159,8 @@ pub fn stops_of_each<A: Allocator + Copy>(
     Ok(copies)
 }
 
-// Where the stops of each of so many edges begin among these, and where those of the last one end.
-fn starts_of<A: Allocator>(
+/// Where the stops of each of so many edges begin among these, and where those of the last one end.
+pub(crate) fn starts_of<A: Allocator>(
     alloc: A,
     count: usize,
     stops: &[Stop],
@@ -192,8 +192,8 @@ fn end_of_run(place: usize, stops: &[Stop], first: usize) -> usize
     next
 }
 
-// The stops from the one place on, and before the other.
-fn stops_at(stops: &[Stop], start: usize, end: usize) -> &[Stop]
+/// The stops from the one place on, and before the other.
+pub(crate) fn stops_at(stops: &[Stop], start: usize, end: usize) -> &[Stop]
     requires { (start ≤ end) × (end ≤ length stops.now) }
     ensures { result.now ≡ between start end stops.now }
 {

@@ -18,6 +18,7 @@ use plane::point::Point;
 use std::alloc::Allocator;
 use stops::stops_in_order;
 
+mod beside;
 mod chains;
 mod close;
 mod columns;

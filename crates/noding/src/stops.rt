@@ -1,14 +1,17 @@
 //! The stops of edges: which hot points each passes between its ends, in the order along it.
 
-ghost use Rattle.std.specs.Prelude.{◌≡◌, ◌<◌, ℕ, List, All, AllPairs, MatchBool, length, IfErr, IfOk, OnOk};
+ghost use Rattle.std.specs.Prelude.{◌≡◌, ◌↔◌, ◌<◌, ℕ, true, List, All, AllPairs, Contains, MatchBool, length, IfErr, IfOk, OnOk};
 ghost use Rattle.i_tree.specs.declared.Refusal.TheVariants.{OutOfMemory};
 ghost use Rattle.plane.specs.Pairs.Pairs.{ArePairs};
+ghost use Rattle.noding.specs.Beside.{NoneCloses};
 ghost use Rattle.noding.specs.Close.{ComeClose, PassesInside};
 ghost use Rattle.noding.specs.Crossings.{AreCrossed, IsCrossed};
 ghost use Rattle.plane.specs.Gains.{GainsThese, HaveSame, IsOfSome};
 ghost use Rattle.noding.specs.Sections.{IsStopIn};
+ghost use Rattle.noding.specs.declared.stops.Stop.{Stop};
 ghost use Rattle.noding.specs.Stops.{AreStops, IsBefore, IsStopAlong, IsStopAmong, IsStopAt, IsStopAtCrossing, IsStopAtEnd, IsOfCrossing, IsStopCrossed, IsStopOfBoth, IsStopOfPair, IsStopThere, IsStopUpto, PassedByBoth, point_of, stop_of, reflected};
 
+use crate::beside::{are_told_by_pairs, stops_beside};
 use crate::close::close_pairs;
 use crate::columns::crossings::crossings_by_columns;
 use crate::columns::passing::pairs_passed_by_columns;
@@ -96,7 +99,55 @@ pub(crate) fn stops_of_pairs<A: Allocator + Copy>(
 {
     let mut stops = Vec::new(alloc);
     push_stops_at_ends(edges, pairs, &mut stops)?;
+    if are_asked_by_pairs(alloc, edges, pairs, crossings)? {
+        return stops_by_pairs(edges, pairs, crossings, stops);
+    }
     push_stops_at_crossings(edges, crossings, &mut stops)?;
+    sort_stops(&mut stops)?;
+    Ok(stops)
+}
+
+// Whether the stops at crossings are sought by the pairs that come close. Of few edges, and of such as run along the axes, they are
+// sooner found otherwise.
+fn are_asked_by_pairs<A: Allocator>(
+    alloc: A,
+    edges: &[Edge],
+    pairs: &[(usize, usize)],
+    crossings: &[Crossing],
+) -> Result<bool, AllocError>
+    requires within { All (λ pair. (pair.0 < length edges.now) × (pair.1 < length edges.now)) pairs.now }
+    requires crossings { All (λ crossing. (crossing.one < length edges.now) × (crossing.other < length edges.now)) crossings.now }
+    ensures { IfOk result (λ are_told. are_told ≡ true → NoneCloses edges.now crossings.now) }
+{
+    if edges.len().saturating_mul(crossings.len()) <= FEW_TESTS || run_along_axes(edges) {
+        return Ok(false);
+    }
+    are_told_by_pairs(alloc, edges, pairs, crossings)
+}
+
+// The stops of all edges, where these are those at ends of others: those of two edges where they cross, and then those of edges at
+// stops of others that they come close to.
+fn stops_by_pairs<A: Allocator + Copy>(
+    edges: &[Edge],
+    pairs: &[(usize, usize)],
+    crossings: &[Crossing],
+    mut stops: Vec<Stop, A>,
+) -> Result<Vec<Stop, A>, Refusal>
+    requires close { ArePairs ComeClose edges.now pairs.now }
+    requires within { All (λ pair. (pair.0 < length edges.now) × (pair.1 < length edges.now)) pairs.now }
+    requires crossed { AreCrossed edges.now pairs.now crossings.now }
+    requires none { NoneCloses edges.now crossings.now }
+    requires ends { (stop : Stop) → Contains stops.items stop ↔ IsOfSome (IsStopOfPair edges.now) pairs.now stop }
+    ensures ok { IfOk result (λ stops. AreStops edges.now stops.items) }
+    ensures refused { IfErr result (λ cause. cause ≡ OutOfMemory) }
+{
+    push_stops_of_crossings(edges, crossings, &mut stops)?;
+    sort_stops(&mut stops)?;
+    let beside = stops_beside(*stops.allocator(), edges, pairs, &stops)?;
+    if beside.is_empty() {
+        return Ok(stops);
+    }
+    stops.extend_from_slice(&beside)?;
     sort_stops(&mut stops)?;
     Ok(stops)
 }

@@ -1,15 +1,16 @@
 -- Edges that share an end, and pass no other one of each other where their boxes have one point in common.
-use Rattle.std.proofs.Common.{◌≡◌, ◌⊎◌, inl, inr, ℤ, ◌≤ℤ◌, Bool, ◌&&◌, true, false, refl, sym, subst, ⊎_elim, arith}
+use Rattle.std.proofs.Common.{◌≡◌, ◌⊎◌, inl, inr, ℤ, ◌≤ℤ◌, Bool, ◌&&◌, not, true, false, refl, sym, subst, ⊎_elim, arith}
 use Rattle.std.specs.Bool.{MatchBool, OnTrue}
 use Rattle.std.specs.Int.{int_min, int_max}
 use Rattle.std.proofs.lemmas.Int.{clamps, ints}
 use Rattle.plane.specs.declared.edge.Edge.{Edge}
 use Rattle.plane.specs.declared.pairs.items.Bounds.{Bounds}
 use Rattle.plane.specs.Meet.Boxes.{bounds_of}
-use Rattle.plane.specs.Meet.Edges.{Meet}
+use Rattle.plane.specs.Pairs.Bounds.{BoundsMeet}
 use Rattle.noding.specs.Chains.{IsEnd}
-use Rattle.noding.specs.Close.{ComeClose, HaveOnePoint, InBox, PassesEnd, PassesInside, ShareEnd}
+use Rattle.noding.specs.Close.{ComeClose, HaveOnePoint, InBox, LieApart, LieNear, PassesEnd, PassesInside, ShareEnd}
 use Rattle.noding.proofs.SnapLemmas.Along.{Passes-end, Passes-in_box, Passes-start}
+use Rattle.noding.proofs.SnapLemmas.Apart.{near-passed}
 
 -- ends of an edge are in its box
 end_in_box : (edge : Edge) (x y : ℤ) → IsEnd edge x y → InBox edge x y
@@ -53,20 +54,33 @@ pub shared_tested : (one other : Edge) (r : Bool) → ShareEnd one other → Mat
 shared_tested one other true shared is = inr is
 shared_tested one other false shared none = ⊎_elim (λ apart. apart.0 shared) none
 
--- and others where they meet
-pub met_tested : (one other : Edge) (r : Bool) → ¬ (ShareEnd one other) → MatchBool r (Meet one other) (¬ (Meet one other)) → r ≡ true → MatchBool r (ComeClose one other) (¬ (ComeClose one other))
-met_tested one other true apart is same = inl (apart, is)
-met_tested one other false apart none same = absurd (cc)
+-- others come close where they lie near each other: an end that is passed is passed by both
+pub near-end : (one other : Edge) → PassesEnd one other → LieNear one other
+near-end one other (inl passes) = near-passed one other other.x0 other.y0 passes.0 (Passes-start other)
+near-end one other (inr passes) = near-passed one other other.x1 other.y1 passes.0 (Passes-end other)
 
--- or too
-pub unmet_tested : (one other : Edge) (met r : Bool) → MatchBool met (Meet one other) (¬ (Meet one other)) → met ≡ false → MatchBool r (PassesEnd one other ⊎ PassesEnd other one) (¬ (PassesEnd one other ⊎ PassesEnd other one)) → MatchBool r (ComeClose one other) (¬ (ComeClose one other))
-unmet_tested one other false true none same is = inr is
-unmet_tested one other false false none same neither = ⊎_elim (λ apart. none apart.1) neither
-unmet_tested one other true r is same passes = absurd (cc)
+pub LieNear-exchanged : (one other : Edge) → LieNear one other → LieNear other one
+LieNear-exchanged one other (box, near) = (
+  record {
+    left = box.right;
+    right = box.left;
+    low = box.high;
+    high = box.low;
+  },
+  λ apart. near (⊎_elim inr inl apart),
+)
 
--- but not where neither passes an end of the other
-pub unmet : (one other : Edge) → ¬ (Meet one other) → ¬ (PassesEnd one other ⊎ PassesEnd other one) → ¬ (ComeClose one other)
-unmet one other none neither = ⊎_elim (λ apart. none apart.1) neither
+pub close-near : (one other : Edge) → ComeClose one other → LieNear one other
+close-near one other (inl apart) = apart.1
+close-near one other (inr (inl passes)) = near-end one other passes
+close-near one other (inr (inr passes)) = LieNear-exchanged other one (near-end other one passes)
+
+pub far_apart : (one other : Edge) → ¬ (ShareEnd one other) → ¬ (BoundsMeet (bounds_of one) (bounds_of other)) → ¬ (ComeClose one other)
+far_apart one other none far close = far (close-near one other close).0
+
+pub apart_tested : (one other : Edge) (r : Bool) → ¬ (ShareEnd one other) → BoundsMeet (bounds_of one) (bounds_of other) → MatchBool r (LieApart one other) (¬ (LieApart one other)) → MatchBool (not r) (ComeClose one other) (¬ (ComeClose one other))
+apart_tested one other true none box apart = λ close. (close-near one other close).1 apart
+apart_tested one other false none box near = inl (none, (box, near))
 
 -- two comparisons of which both are made
 pub OnTrue-both : (first second : Bool) {P : Type 0} → (first ≡ true → second ≡ true → P) → OnTrue (first && second) P

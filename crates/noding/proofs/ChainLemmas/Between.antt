@@ -19,6 +19,7 @@ use Rattle.noding.specs.declared.crossings.Crossing.{Crossing}
 use Rattle.noding.proofs.ChainLemmas.Crossings.{each-crossed, pair-crossed}
 use Rattle.plane.proofs.GainsLemmas.{held-at, place-of}
 use Rattle.noding.proofs.ChainLemmas.Local.{CrossBeside-exchanged, has_end}
+use Rattle.noding.proofs.SnapLemmas.Apart.{near-passed}
 use Rattle.noding.proofs.SnapLemmas.Crossing.{CrossAt-exchanged, CrossAt-itself}
 use Rattle.noding.proofs.SnapLemmas.Local.{common_whole}
 use Rattle.noding.proofs.SnapLemmas.Lying.{at_or_not}
@@ -86,7 +87,7 @@ HaveAllCrossed-close edges pairs close =
     HaveAllCrossed-rising edges pairs
     (λ i j one other x y below first second between.
     let (slanted, (point, of_one, of_other, rounds, none)) = between in
-    (close.exact i j).1 (record { one = one; other = other; rising = below; first = first; second = second; meet = inl (no_shared one other x y between, (point, of_one, of_other)) }))
+    (close.exact i j).1 (record { one = one; other = other; rising = below; first = first; second = second; meet = inl (no_shared one other x y between, near-passed one other x y (point, of_one, rounds) (point, of_other, rounds)) }))
 
 -- ---- ends
 

@@ -1,20 +1,19 @@
 -- Edges that come close: they do whichever is named first, and their boxes meet then.
-use Rattle.std.proofs.Common.{◌≡◌, ◌⊎◌, inl, inr, ℕ, zero, suc, ◌<◌, ℤ, ◌≤ℤ◌, Bool, true, false, ◌||◌, List, [], ◌∷◌, ◌++◌, Some, get_or, length, map, refl, ap, sym, ◌∙◌, subst, ⊎_elim, arith}
+use Rattle.std.proofs.Common.{◌≡◌, ◌⊎◌, inl, inr, ℕ, zero, suc, ◌<◌, ℤ, Bool, true, false, ◌||◌, List, [], ◌∷◌, ◌++◌, Some, get_or, length, map, refl, ap, sym, ◌∙◌, subst, ⊎_elim}
 use Rattle.std.specs.Bool.{MatchBool, then_some}
-use Rattle.std.specs.Int.{int_min, int_max}
 use Rattle.std.specs.List.{All, slice_get}
 use Rattle.std.specs.Option.{IfSome, option_map}
-use Rattle.std.proofs.lemmas.Int.{clamps, ints}
 use Rattle.std.proofs.lemmas.List.Elements.{Contains-get_or}
 use Rattle.std.proofs.lemmas.Option.{same_Some, slice_get-map, slice_get_within}
 use Rattle.plane.specs.declared.edge.Edge.{Edge}
 use Rattle.plane.specs.Meet.Boxes.{bounds_of}
-use Rattle.plane.specs.Pairs.Bounds.{BoundsMeet, MeetInBoxes}
+use Rattle.plane.specs.Pairs.Bounds.{MeetInBoxes}
 use Rattle.plane.specs.Pairs.Pairs.{ArePairs, ArePairsBetween, PairAt}
-use Rattle.plane.proofs.MeetLemmas.Boxes.{meet-in_boxes, meet_comm}
+use Rattle.plane.proofs.MeetLemmas.Boxes.{meet-in_boxes}
 use Rattle.noding.specs.Chains.{IsEnd}
-use Rattle.noding.specs.Close.{ComeClose, HoldsEnd, MeetApart, PassesEnd, PassesInside, ShareEnd, item_of}
+use Rattle.noding.specs.Close.{ComeClose, HoldsEnd, PassesEnd, ShareEnd, item_of}
 use Rattle.noding.specs.declared.close.CloseEdge.{CloseEdge}
+use Rattle.noding.proofs.ChainLemmas.Beside.{LieNear-exchanged, close-near}
 use Rattle.noding.proofs.SnapLemmas.Along.{Passes-in_box}
 
 -- ---- whichever is named first
@@ -22,46 +21,17 @@ use Rattle.noding.proofs.SnapLemmas.Along.{Passes-in_box}
 ShareEnd-exchanged : (one other : Edge) → ShareEnd one other → ShareEnd other one
 ShareEnd-exchanged one other (x, y, of_one, of_other) = (x, y, of_other, of_one)
 
-pub MeetApart-exchanged : (one other : Edge) → MeetApart one other → MeetApart other one
-MeetApart-exchanged one other (apart, meet) = (λ shared. apart (ShareEnd-exchanged other one shared), meet_comm one other meet)
-
 pub ComeClose-exchanged : (one other : Edge) → ComeClose one other → ComeClose other one
-ComeClose-exchanged one other (inl meet) = inl (MeetApart-exchanged one other meet)
+ComeClose-exchanged one other (inl (none, near)) = inl ((λ shared. none (ShareEnd-exchanged other one shared)), LieNear-exchanged one other near)
 ComeClose-exchanged one other (inr (inl passes)) = inr (inr passes)
 ComeClose-exchanged one other (inr (inr passes)) = inr (inl passes)
-
--- ---- boxes
-
-module _ (edge other : Edge) where
-  near_end : (x y : ℤ) → int_min other.x0 other.x1 ≤ℤ x → x ≤ℤ int_max other.x0 other.x1 → int_min other.y0 other.y1 ≤ℤ y → y ≤ℤ int_max other.y0 other.y1
-      → PassesInside edge x y → BoundsMeet (bounds_of edge) (bounds_of other)
-  near_end x y left right low high passes = let box = Passes-in_box edge x y passes.0 in record {
-    left = (let from = box.left in omega (arith, ints, from, right));
-    right = (let upto = box.right in omega (arith, ints, upto, left));
-    low = (let from = box.low in omega (arith, ints, from, high));
-    high = (let upto = box.high in omega (arith, ints, upto, low));
-  }
-
-  near_passed : PassesEnd edge other → BoundsMeet (bounds_of edge) (bounds_of other)
-  near_passed (inl passes) = near_end other.x0 other.y0 (omega (arith, ints, clamps)) (omega (arith, ints, clamps)) (omega (arith, ints, clamps)) (omega (arith, ints, clamps)) passes
-  near_passed (inr passes) = near_end other.x1 other.y1 (omega (arith, ints, clamps)) (omega (arith, ints, clamps)) (omega (arith, ints, clamps)) (omega (arith, ints, clamps)) passes
-
-near : (one other : Edge) → ComeClose one other → BoundsMeet (bounds_of one) (bounds_of other)
-near one other (inl meet) = meet-in_boxes.near one other meet.1
-near one other (inr (inl passes)) = near_passed one other passes
-near one other (inr (inr passes)) = let box = near_passed other one passes in record {
-  left = box.right;
-  right = box.left;
-  low = box.high;
-  high = box.low;
-}
 
 -- as the sweep asks it of items with boxes
 pub close-in_boxes : MeetInBoxes (λ (it : CloseEdge). bounds_of it.edge) (λ (it other : CloseEdge). ComeClose it.edge other.edge)
 close-in_boxes = record {
   proper = λ it. meet-in_boxes.proper it.edge;
   exchanged = λ it other. ComeClose-exchanged it.edge other.edge;
-  near = λ it other. near it.edge other.edge;
+  near = λ it other close. (close-near it.edge other.edge close).0;
 }
 
 -- ---- items
@@ -157,11 +127,11 @@ held edge other none (inl inside) = none (inl (Passes-in_box edge other.x0 other
 held edge other none (inr inside) = none (inr (Passes-in_box edge other.x1 other.y1 inside.0))
 
 -- some point is an end of both edges where an end of the other one is an end of the one
-shared : (one other : Edge) → IsEnd one other.x0 other.y0 ⊎ IsEnd one other.x1 other.y1 → ShareEnd one other
+pub shared : (one other : Edge) → IsEnd one other.x0 other.y0 ⊎ IsEnd one other.x1 other.y1 → ShareEnd one other
 shared one other (inl is) = (other.x0, other.y0, is, inl (refl, refl))
 shared one other (inr is) = (other.x1, other.y1, is, inr (refl, refl))
 
-shared-from : (one other : Edge) → ShareEnd one other → IsEnd one other.x0 other.y0 ⊎ IsEnd one other.x1 other.y1
+pub shared-from : (one other : Edge) → ShareEnd one other → IsEnd one other.x0 other.y0 ⊎ IsEnd one other.x1 other.y1
 shared-from one other (x, y, of_one, inl (same_x, same_y)) = inl (subst (λ (a : ℤ). IsEnd one a other.y0) same_x (subst (λ (b : ℤ). IsEnd one x b) same_y of_one))
 shared-from one other (x, y, of_one, inr (same_x, same_y)) = inr (subst (λ (a : ℤ). IsEnd one a other.y1) same_x (subst (λ (b : ℤ). IsEnd one x b) same_y of_one))
 

@@ -82,7 +82,7 @@ module _ (stops : List Stop) (like start end : ℕ) (first : Split like start st
       omega (arith, most, least)
 
   -- stand among all
-  of_run : (stop : Stop) → Contains run stop → Contains stops stop × (stop.place ≡ like)
+  pub of_run : (stop : Stop) → Contains run stop → Contains stops stop × (stop.place ≡ like)
   of_run stop (k, within, is) =
       let (at, upto) = run-at k stop within in
       let inside = last.inside in
@@ -90,7 +90,7 @@ module _ (stops : List Stop) (like start end : ℕ) (first : Split like start st
       ((start + k, omega (arith, upto, inside), same), ap (λ (s : Stop). s.place) (sym same) ∙ run-place (start + k) stop (omega arith) upto)
 
   -- and no others of it do
-  in_run : (stop : Stop) → Contains stops stop → stop.place ≡ like → Contains run stop
+  pub in_run : (stop : Stop) → Contains stops stop → stop.place ≡ like → Contains run stop
   in_run stop (k, within, is) at =
       let here : (get_or stops k stop).place ≡ like = ap (λ (s : Stop). s.place) is ∙ at in
       let from : start ≤ k = ⊎_elim (λ below. absurd (let lower = first.before k stop below in omega (arith, lower, here))) (λ above. above) (cases_lt k start) in
@@ -237,3 +237,12 @@ module _ (edges distinct : List Edge) (places : List ℕ) (are : AreDistinct edg
   AreNodeStops-copied = AreStopsOf-copied (IsNode distinct) (IsNode edges)
       (λ edge x y (hot, passes, node). (IsHot-more distinct edges to_all x y hot, passes, ⊎_elim inl (λ moved. inr (IsMoved-more distinct edges to_all edge moved)) node))
       (λ edge x y (hot, passes, node). (IsHot-more edges distinct to_distinct x y hot, passes, ⊎_elim inl (λ moved. inr (IsMoved-more edges distinct to_distinct edge moved)) node))
+
+-- ---- where the stops of an edge begin and end, by places
+
+module _ (count : ℕ) (stops : List Stop) (starts : List ℕ) (are : AreStarts count stops starts) (place : ℕ) (below : place < count) where
+  pub starts-at : Split place (get_or starts place 0) stops × Split (place + 1) (get_or starts (place + 1) 0) stops
+  starts-at = (are.each place (omega (arith, below)), are.each (place + 1) (omega (arith, below)))
+
+  pub starts-rising : (get_or starts place 0 ≤ get_or starts (place + 1) 0) × (get_or starts (place + 1) 0 ≤ length stops)
+  starts-rising = (splits-rising stops place (get_or starts place 0) (get_or starts (place + 1) 0) starts-at.0 starts-at.1, starts-at.1.inside)

@@ -17,6 +17,7 @@ use Rattle.plane.proofs.PointLemmas.{whole_point}
 use Rattle.noding.proofs.ChainLemmas.Ends.{end_or_not}
 use Rattle.plane.proofs.GainsLemmas.{gained-all, gains-none, gains-only, held-at, place-of}
 use Rattle.noding.proofs.SnapLemmas.Along.{from_at, to_at}
+use Rattle.noding.proofs.SnapLemmas.Apart.{near-passed}
 use Rattle.noding.proofs.SnapLemmas.Crossing.{CrossAt-exchanged, CrossAt-itself, CrossAt-unique}
 use Rattle.noding.proofs.SnapLemmas.Rounding.{RoundsTo-itself, whole}
 
@@ -148,7 +149,7 @@ module _ (edges : List Edge) (pairs : List (ℕ × ℕ)) (close : ArePairs ComeC
         rising = below;
         first = first;
         second = second;
-        meet = inl (no_shared, (at, of_one, of_other));
+        meet = inl (no_shared, near-passed one other point.x point.y (at, of_one, rounds) (at, of_other, rounds));
       })
 
   paired : (i j : ℕ) (one other : Edge) (point : Point) → i < j → slice_get edges i ≡ Some one → slice_get edges j ≡ Some other → CrossInside one other point → IsOfSome (IsCrossingOf edges) pairs point

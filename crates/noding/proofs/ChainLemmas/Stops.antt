@@ -106,11 +106,11 @@ module _ (edge other : Edge) (x y : ℤ) (passes : PassesInside edge x y) where
   stop_at_end place (inr (same_x, same_y)) = inr (at_end edge other.x1 other.y1 x y same_x same_y passes, ap₂ (stop_of place edge) same_x same_y)
 
 -- A stop at a hot point that the edge passes.
-abbrev IsStop : List Edge → Stop → Type 0
+abbrev pub IsStop : List Edge → Stop → Type 0
 IsStop edges stop = IsStopOf (λ edge x y. IsHot edges x y × Passes edge x y) edges stop
 
 -- a stop at a hot point
-IsStop-along : (edges : List Edge) (place : ℕ) (edge : Edge) (x y : ℤ) (stop : Stop) → slice_get edges place ≡ Some edge → IsHot edges x y → IsStopAlong place edge x y stop → IsStop edges stop
+pub IsStop-along : (edges : List Edge) (place : ℕ) (edge : Edge) (x y : ℤ) (stop : Stop) → slice_get edges place ≡ Some edge → IsHot edges x y → IsStopAlong place edge x y stop → IsStop edges stop
 IsStop-along edges place edge x y stop stands hot (passes, is) =
     let same_place : stop.place ≡ place = ap (λ (s : Stop). s.place) is in
     let point : point_of edge stop ≡ record { x = x; y = y } = ap (point_of edge) is ∙ point-of_stop place edge x y in
@@ -127,7 +127,7 @@ IsStop-at_end edges other place edge stop held stands (inl along) = IsStop-along
 IsStop-at_end edges other place edge stop held stands (inr along) = IsStop-along edges place edge other.x1 other.y1 stop stands (inl (other, held, inr (refl, refl))) along
 
 -- stops of which each is one, and that have each one, are the edges' stops once they are in order and each is left once
-AreStops-told : (edges : List Edge) (stops sorted : List Stop) → ((place : ℕ) (edge : Edge) (x y : ℤ) → slice_get edges place ≡ Some edge → IsHot edges x y → PassesInside edge x y → Contains stops (stop_of place edge x y))
+pub AreStops-told : (edges : List Edge) (stops sorted : List Stop) → ((place : ℕ) (edge : Edge) (x y : ℤ) → slice_get edges place ≡ Some edge → IsHot edges x y → PassesInside edge x y → Contains stops (stop_of place edge x y))
     → ((stop : Stop) → Contains stops stop → IsStop edges stop) → HaveSame stops sorted → AllPairs IsBefore sorted → AreStops edges sorted
 AreStops-told edges stops sorted each of same in_order = record {
   each = λ place edge x y stands node passes. (same (stop_of place edge x y)).1 (each place edge x y stands node.0 passes);
@@ -152,7 +152,7 @@ AreStops-hot edges points stops sorted hot told =
 
 module _ (edges : List Edge) (pairs : List (ℕ × ℕ)) (close : ArePairs ComeClose edges pairs) where
   -- where an edge passes an end of another one the two are at a pair that comes close
-  end_told : (place i : ℕ) (edge other : Edge) (x y : ℤ) → slice_get edges place ≡ Some edge → slice_get edges i ≡ Some other → IsEnd other x y → PassesInside edge x y
+  pub end_told : (place i : ℕ) (edge other : Edge) (x y : ℤ) → slice_get edges place ≡ Some edge → slice_get edges i ≡ Some other → IsEnd other x y → PassesInside edge x y
       → IsOfSome (IsStopOfPair edges) pairs (stop_of place edge x y)
   end_told place i edge other x y stands second end passes =
       let near : PassesEnd edge other = passed_end edge other x y passes end in
@@ -175,7 +175,7 @@ module _ (edges : List Edge) (pairs : List (ℕ × ℕ)) (close : ArePairs ComeC
         ]
       ]
 
-  end-stop : (stop : Stop) → IsOfSome (IsStopOfPair edges) pairs stop → IsStop edges stop
+  pub end-stop : (stop : Stop) → IsOfSome (IsStopOfPair edges) pairs stop → IsStop edges stop
   end-stop stop ((i, j), held, is) =
       elim is.at [
         | inl at ↦ IsStop-at_end edges is.other i is.one stop (held-at edges j is.other is.second) is.first at

@@ -1,5 +1,5 @@
--- Edges that lie apart: the one so far to one side of the other's line that neither passes an end of the other.
-use Rattle.std.proofs.Common.{◌≡◌, ◌⊎◌, inl, inr, ℕ, zero, suc, ◌+◌, ◌*◌, ℤ, pos, ◌+ℤ◌, ◌-ℤ◌, ◌*ℤ◌, ◌≤ℤ◌, ◌<ℤ◌, Bool, true, false, List, [], ◌∷◌, subst, subst₂, sym, ⊎_elim, arith, refl}
+-- Edges that lie apart: the one so far to one side of the other's line that no whole point is passed by both.
+use Rattle.std.proofs.Common.{◌≡◌, ◌↔◌, inl, inr, ℕ, zero, suc, ◌+◌, ◌*◌, ℤ, pos, ◌+ℤ◌, ◌-ℤ◌, ◌*ℤ◌, ◌≤ℤ◌, ◌<ℤ◌, Bool, true, false, List, [], ◌∷◌, subst, subst₂, sym, ⊎_elim, arith, refl}
 use Rattle.std.specs.Int.RustNames.{unsigned_abs}
 use Rattle.std.specs.Int.Signed.{lt_z}
 use Rattle.std.specs.List.{Contains}
@@ -11,10 +11,10 @@ use Rattle.plane.specs.Lines.{height_over, margin_of}
 use Rattle.plane.proofs.MeetLemmas.Identities.{identity, minus, number, times}
 use Rattle.plane.proofs.MeetLemmas.Shares.{whole as all, part_of_one, part_of_other}
 use Rattle.noding.specs.Chains.{Passes}
-use Rattle.noding.specs.Close.{LieBeyond, PassesEnd}
+use Rattle.noding.specs.Close.{LieBeyond, LieNear, LiesBeside}
 use Rattle.noding.specs.Near.{IsNear}
 use Rattle.noding.specs.Windings.{further}
-use Rattle.noding.proofs.SnapLemmas.Along.{from_at}
+use Rattle.noding.proofs.SnapLemmas.Along.{Passes-in_box, from_at}
 use Rattle.noding.proofs.SnapLemmas.Beside.{passed-from, passed-upto, turned}
 use Rattle.noding.proofs.SnapLemmas.Hulls.{IsNearHull, near-hull, over}
 use Rattle.noding.proofs.SnapLemmas.Near.{IsNear-piece}
@@ -52,18 +52,12 @@ size p q = let same = abs-negative q in omega (arith, ints, same)
 size_back : (p q : ℤ) → pos (unsigned_abs (pos 0 -ℤ (pos 0 -ℤ q)) + unsigned_abs (pos 0 -ℤ p)) ≡ pos (unsigned_abs p + unsigned_abs q)
 size_back p q = let same = abs-negative q in let twice = abs-negative (pos 0 -ℤ q) in let other = abs-negative p in omega (arith, ints, same, twice, other)
 
--- what lies beyond half a margin doesn't lie within it
-over_clash : (h m z : ℤ) → ((h +ℤ h) -ℤ m) ≤ℤ (pos 2 *ℤ z) → z ≡ pos 0 → m <ℤ (h +ℤ h) → ⊥
-over_clash h m z least level over = omega (arith, ints, least, level, over)
+-- what lies beyond a margin doesn't come within half of it, by half of it
+over_clash : (h m z : ℤ) → ((h +ℤ h) -ℤ m) ≤ℤ (pos 2 *ℤ z) → (pos 2 *ℤ z) ≤ℤ m → m <ℤ h → ⊥
+over_clash h m z least upto over = omega (arith, ints, least, upto, over)
 
-under_clash : (h m z : ℤ) → (pos 2 *ℤ z) ≤ℤ ((h +ℤ h) +ℤ m) → z ≡ pos 0 → (h +ℤ h) <ℤ (pos 0 -ℤ m) → ⊥
-under_clash h m z most level under = omega (arith, ints, most, level, under)
-
-upto_clash : (h m : ℤ) → (pos 2 *ℤ h) ≤ℤ m → m <ℤ (h +ℤ h) → ⊥
-upto_clash h m upto over = omega (arith, ints, upto, over)
-
-from_clash : (h m : ℤ) → (pos 0 -ℤ m) ≤ℤ (pos 2 *ℤ h) → (h +ℤ h) <ℤ (pos 0 -ℤ m) → ⊥
-from_clash h m from under = omega (arith, ints, from, under)
+under_clash : (h m z : ℤ) → (pos 2 *ℤ z) ≤ℤ ((h +ℤ h) +ℤ m) → (pos 0 -ℤ m) ≤ℤ (pos 2 *ℤ z) → h <ℤ (pos 0 -ℤ m) → ⊥
+under_clash h m z most from under = omega (arith, ints, most, from, under)
 
 -- ---- heights
 
@@ -118,45 +112,45 @@ module _ (edge line : Edge) (x y : ℤ) (passes : Passes edge x y) where
       (further_from h at (further u v (end_of edge)) (further (pos 0 -ℤ u) (pos 0 -ℤ v) (end_of edge)) (height_over line (end_of edge)) (turned u v edge.x1 edge.y1) (over_line (end_of edge)) last)))
       (turned u v x y) (over_line point) (size_back v (line.y1 -ℤ line.y0))
 
--- an edge starts and ends on its own line
-start_level : (line : Edge) → height_over line (start_of line) ≡ pos 0
-start_level line =
-    let run = minus (number line.x1) (number line.x0) in let rise = minus (number line.y1) (number line.y0) in
-    identity (minus (times run (minus (number line.y0) (number line.y0))) (times rise (minus (number line.x0) (number line.x0)))) (n_of 0) (omega arith)
-
-end_level : (line : Edge) → height_over line (end_of line) ≡ pos 0
-end_level line =
-    let run = minus (number line.x1) (number line.x0) in let rise = minus (number line.y1) (number line.y0) in
-    identity (minus (times run (minus (number line.y1) (number line.y0))) (times rise (minus (number line.x1) (number line.x0)))) (n_of 0) (omega arith)
-
--- An edge both of whose ends lie on one side of a line, and beyond its margin, passes no end of it.
-module _ (edge line : Edge) (beyond : LieBeyond (height_over line (start_of edge)) (height_over line (end_of edge)) (margin_of line)) where
+-- Edges that both pass a whole point don't lie beside each other.
+module _ (edge line : Edge) (x y : ℤ) (passes : Passes edge x y) (line_passes : Passes line x y) where
   abbrev first : ℤ
   first = height_over line (start_of edge)
 
   abbrev last : ℤ
   last = height_over line (end_of edge)
 
-  none : (x y : ℤ) → height_over line (record { x = x; y = y }) ≡ pos 0 → ¬ (Passes edge x y)
-  none x y level passes = go (lt_z first last) refl beyond
+  abbrev height : ℤ
+  height = height_over line (record { x = x; y = y })
+
+  upto : (pos 2 *ℤ height) ≤ℤ margin_of line
+  upto = passed-upto line x y line_passes
+
+  from : (pos 0 -ℤ margin_of line) ≤ℤ (pos 2 *ℤ height)
+  from = passed-from line x y line_passes
+
+  not_beside : ¬ (LiesBeside edge line)
+  not_beside = go (lt_z first last) refl
     where
-      go : (rises : Bool) → lt_z first last ≡ rises → LieBeyond first last (margin_of line) → ⊥
-      go true is (inl (start_over, end_over)) = over_clash first (margin_of line) (height_over line (record { x = x; y = y })) (above edge line x y passes first (le_refl first) (rising first last is)) level start_over
-      go false is (inl (start_over, end_over)) = over_clash last (margin_of line) (height_over line (record { x = x; y = y })) (above edge line x y passes last (falling first last is) (le_refl last)) level end_over
-      go true is (inr (start_under, end_under)) = under_clash last (margin_of line) (height_over line (record { x = x; y = y })) (below edge line x y passes last (rising first last is) (le_refl last)) level end_under
-      go false is (inr (start_under, end_under)) = under_clash first (margin_of line) (height_over line (record { x = x; y = y })) (below edge line x y passes first (le_refl first) (falling first last is)) level start_under
+      go : (rises : Bool) → lt_z first last ≡ rises → LiesBeside edge line → ⊥
+      go true is (inl over) = over_clash first (margin_of line) height (above edge line x y passes first (le_refl first) (rising first last is)) upto over.0
+      go false is (inl over) = over_clash last (margin_of line) height (above edge line x y passes last (falling first last is) (le_refl last)) upto over.1
+      go true is (inr under) = under_clash last (margin_of line) height (below edge line x y passes last (rising first last is) (le_refl last)) from under.1
+      go false is (inr under) = under_clash first (margin_of line) height (below edge line x y passes first (le_refl first) (falling first last is)) from under.0
 
-  no_end : ¬ (PassesEnd edge line)
-  no_end (inl passes) = none line.x0 line.y0 (start_level line) passes.0
-  no_end (inr passes) = none line.x1 line.y1 (end_level line) passes.0
-
-  -- nor does the line's edge pass one of its ends
-  no_end_back : ¬ (PassesEnd line edge)
-  no_end_back (inl passes) = ⊎_elim (λ over. upto_clash first (margin_of line) (passed-upto line edge.x0 edge.y0 passes.0) over.0) (λ under. from_clash first (margin_of line) (passed-from line edge.x0 edge.y0 passes.0) under.0) beyond
-  no_end_back (inr passes) = ⊎_elim (λ over. upto_clash last (margin_of line) (passed-upto line edge.x1 edge.y1 passes.0) over.1) (λ under. from_clash last (margin_of line) (passed-from line edge.x1 edge.y1 passes.0) under.1) beyond
-
-  pub beyond-apart : ¬ (PassesEnd edge line ⊎ PassesEnd line edge)
-  beyond-apart = ⊎_elim no_end no_end_back
+-- so they lie near each other
+pub near-passed : (one other : Edge) (x y : ℤ) → Passes one x y → Passes other x y → LieNear one other
+near-passed one other x y first second =
+    let box = Passes-in_box one x y first in
+    let other_box = Passes-in_box other x y second in (
+      record {
+        left = (let a = box.left in let b = other_box.right in omega (arith, ints, a, b));
+        right = (let a = other_box.left in let b = box.right in omega (arith, ints, a, b));
+        low = (let a = box.low in let b = other_box.high in omega (arith, ints, a, b));
+        high = (let a = other_box.low in let b = box.high in omega (arith, ints, a, b));
+      },
+      ⊎_elim (not_beside one other x y first second) (not_beside other one x y second first),
+    )
 
 -- ---- heights by the cross products of two edges
 
@@ -193,13 +187,19 @@ LieBeyond-turned : (a b m : ℤ) → LieBeyond a b m → LieBeyond (pos 0 -ℤ a
 LieBeyond-turned a b m (inl (start, end)) = inr (omega (arith, ints, start), omega (arith, ints, end))
 LieBeyond-turned a b m (inr (start, end)) = inl (omega (arith, ints, start), omega (arith, ints, end))
 
--- So neither passes an end of the other where one lies beyond the other's margin.
-pub one-beyond : (one other : Edge) → LieBeyond (part_of_one one other) (part_of_one one other -ℤ all one other) (margin_of other) → ¬ (PassesEnd one other ⊎ PassesEnd other one)
-one-beyond one other beyond =
-    beyond-apart one other (subst₂ (λ (a b : ℤ). LieBeyond a b (margin_of other)) (sym (start-over one other)) (sym (end-over one other)) beyond)
+LieBeyond-back : (a b m : ℤ) → LieBeyond (pos 0 -ℤ a) (pos 0 -ℤ b) m → LieBeyond a b m
+LieBeyond-back a b m (inl (start, end)) = inr (omega (arith, ints, start), omega (arith, ints, end))
+LieBeyond-back a b m (inr (start, end)) = inl (omega (arith, ints, start), omega (arith, ints, end))
 
-pub other-beyond : (one other : Edge) → LieBeyond (part_of_other one other) (part_of_other one other -ℤ all one other) (margin_of one) → ¬ (PassesEnd one other ⊎ PassesEnd other one)
-other-beyond one other beyond either =
-    beyond-apart other one
-    (subst₂ (λ (a b : ℤ). LieBeyond a b (margin_of one)) (sym (start-under one other)) (sym (end-under one other)) (LieBeyond-turned (part_of_other one other) (part_of_other one other -ℤ all one other) (margin_of one) beyond))
-    (⊎_elim inr inl either)
+-- So the cross products tell whether one lies beside the other.
+pub one-beside : (one other : Edge) → LieBeyond (part_of_one one other) (part_of_one one other -ℤ all one other) (margin_of other) ↔ LiesBeside one other
+one-beside one other = (
+  subst₂ (λ (a b : ℤ). LieBeyond a b (margin_of other)) (sym (start-over one other)) (sym (end-over one other)),
+  subst₂ (λ (a b : ℤ). LieBeyond a b (margin_of other)) (start-over one other) (end-over one other),
+)
+
+pub other-beside : (one other : Edge) → LieBeyond (part_of_other one other) (part_of_other one other -ℤ all one other) (margin_of one) ↔ LiesBeside other one
+other-beside one other = (
+  λ beyond. subst₂ (λ (a b : ℤ). LieBeyond a b (margin_of one)) (sym (start-under one other)) (sym (end-under one other)) (LieBeyond-turned (part_of_other one other) (part_of_other one other -ℤ all one other) (margin_of one) beyond),
+  λ beside. LieBeyond-back (part_of_other one other) (part_of_other one other -ℤ all one other) (margin_of one) (subst₂ (λ (a b : ℤ). LieBeyond a b (margin_of one)) (start-under one other) (end-under one other) beside),
+)

@@ -1,15 +1,11 @@
-use Rattle.std.proofs.Common.{inl, refl}
-use Rattle.noding.proofs.ChainLemmas.Beside.{shared_tested, unmet, unmet_tested}
+use Rattle.noding.proofs.ChainLemmas.Beside.{apart_tested, far_apart, shared_tested}
 use Rattle.noding.proofs.close.come_close.Goals as goal
 
 pub returns-then-share_end : goal.returns-then-share_end
 returns-then-share_end c = shared_tested c.args.one c.args.other c.pass_beside.result c.if-share_end.ensures c.pass_beside.ensures
 
-pub returns-then-meet : goal.returns-then-meet
-returns-then-meet c = inl (c.if-share_end.ensures, c.if-meet.ensures)
-
-pub returns-then-lie_apart : goal.returns-then-lie_apart
-returns-then-lie_apart c = unmet c.args.one c.args.other c.if-meet.ensures (c.if-lie_apart.ensures refl)
+pub returns-then-not-boxes_meet : goal.returns-then-not-boxes_meet
+returns-then-not-boxes_meet c = far_apart c.args.one c.args.other c.if-share_end.ensures (rw (c.bounds.ensures, c.bounds-2.ensures) at c.if-not-boxes_meet.ensures)
 
 pub returns : goal.returns
-returns c = unmet_tested c.args.one c.args.other c.meet.result c.one_passes_end.result c.meet.ensures c.if-meet.false c.one_passes_end.ensures
+returns c = apart_tested c.args.one c.args.other c.lie_apart.result c.if-share_end.ensures (rw (c.bounds.ensures, c.bounds-2.ensures) at c.if-not-boxes_meet.ensures) c.lie_apart.ensures

@@ -13,6 +13,17 @@ push_stops_at_crossings-requires-clause-each g c = each-crossed c.args.edges.now
 pub push_stops_at_crossings-requires-clause-within : goal.push_stops_at_crossings-requires-clause-within
 push_stops_at_crossings-requires-clause-within g c = within-crossed c.args.edges.now c.args.pairs.now c.args.crossings.now c.requires.crossed
 
+pub are_asked_by_pairs-requires-clause-crossings : goal.are_asked_by_pairs-requires-clause-crossings
+are_asked_by_pairs-requires-clause-crossings g c = within-crossed c.args.edges.now c.args.pairs.now c.args.crossings.now c.requires.crossed
+
+pub stops_by_pairs-requires-clause-ends : goal.stops_by_pairs-requires-clause-ends
+stops_by_pairs-requires-clause-ends g c =
+    let edges = c.args.edges.now in
+    let pairs = c.args.pairs.now in
+    let ended = c.push_stops_at_ends.new.stops.items in
+    gained-all (IsOfSome (IsStopOfPair edges) pairs) ended
+    (subst (λ (before : List Stop). GainsThese (IsOfSome (IsStopOfPair edges) pairs) before ended) c.new-stops.ensures.items c.in_ok-push_stops_at_ends.ensures)
+
 pub returns-clause-ok : goal.returns-clause-ok
 returns-clause-ok g c =
     let edges = c.args.edges.now in
