@@ -5,6 +5,7 @@ pub mod Balance
 pub mod Callers
 pub mod Columns
 pub mod Filled
+pub mod Handed
 pub mod High
 pub mod Kept
 pub mod Least

@@ -3,6 +3,8 @@ pub mod Begun
 pub mod Below
 pub mod Few
 pub mod First
+pub mod Handed
+pub mod Looked
 pub mod Parts
 pub mod Region
 pub mod Swept

@@ -3,6 +3,7 @@ pub mod Begins
 pub mod Counts
 pub mod Few
 pub mod Filled
+pub mod Handed
 pub mod Pieces
 pub mod Rules
 pub mod Sweep

@@ -58,7 +58,7 @@ gap-evenly r g x =
 -- ---- one edge at the column x + 1
 
 -- What is counted behind and what before change places with what ends and what begins.
-abbrev Moves : Bool → Bool → Bool → Bool → Type 0
+abbrev pub Moves : Bool → Bool → Bool → Bool → Type 0
 Moves a b e s = (a ≡ e) × (b ≡ s) ⊎ (a ≡ b) × (e ≡ s)
 
 -- a difference of what is the same is that of what is the same elsewhere

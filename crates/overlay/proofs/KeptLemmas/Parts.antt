@@ -109,3 +109,9 @@ weigh-between most pieces distinct weigh first end count =
     let live_apart = AllPairs-behind Differ (take first begun) live two_apart in
     let three = sym (take-append-drop count live) in
     weigh-front most (take count live) (drop count live) (subst (AllPairs Differ) three live_apart) (subst (WeighUpto most) three live_weigh)
+
+-- Of pieces the first so many.
+pub weigh-first_ones : (most : ℕ) (pieces : List Piece) → AllPairs (λ one other. one.edge ≢ other.edge) pieces → WeighUpto most pieces → (count : ℕ) → WeighUpto most (take count pieces)
+weigh-first_ones most pieces distinct weigh count =
+    let whole = sym (take-append-drop count pieces) in
+    weigh-front most (take count pieces) (drop count pieces) (subst (AllPairs Differ) whole distinct) (subst (WeighUpto most) whole weigh)

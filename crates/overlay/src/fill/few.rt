@@ -63,8 +63,8 @@ fn counts_below(begun: &[Piece], ended: &mut usize, above: Counts, point: Point)
     counts_upto(&begun[*ended..], point)
 }
 
-// Whether the last of the pieces begins at the point.
-fn last_begins_at(pieces: &[Piece], point: Point) -> bool
+/// Whether the last of the pieces begins at the point.
+pub fn last_begins_at(pieces: &[Piece], point: Point) -> bool
     ensures { result ≡ true → LastBeginsAt point pieces.now }
 {
     match pieces.last() {
@@ -86,8 +86,8 @@ fn count_ended(begun: &[Piece], known: usize, point: Point) -> usize
     count
 }
 
-// What those of the pieces weigh that go on behind the point's x and aren't above the point.
-fn counts_upto(begun: &[Piece], point: Point) -> Counts
+/// What those of the pieces weigh that go on behind the point's x and aren't above the point.
+pub fn counts_upto(begun: &[Piece], point: Point) -> Counts
     requires begun { All (λ piece. piece.edge.x0 ≤ℤ point.x) begun.now }
     requires weigh { (most : ℕ) × (most < 2 ^ 63) × ((count : ℕ) → WeighUpto most (take count begun.now)) }
     ensures { result ≡ counts_upto point begun.now }

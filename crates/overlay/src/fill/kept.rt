@@ -13,7 +13,9 @@ ghost use Rattle.overlay.specs.Fill.Sweep.{AreFillPieces, above_or, kept_of};
 ghost use Rattle.plane.specs.Lists.{Extends};
 
 use super::counts::{Counts, is_result, keep, plus};
+use super::ends::ends_in_order;
 use super::few::append_by_comparing;
+use super::handed::{append_by_handing, are_few_looks};
 use super::pieces::Piece;
 use super::rules::Choice;
 use i_tree::Refusal;
@@ -50,6 +52,12 @@ where
         append_by_comparing(pieces, choice, out)?;
         return Ok(());
     }
+    let ends = ends_in_order(*out.allocator(), pieces)?;
+    if are_few_looks(pieces, &ends) {
+        append_by_handing(pieces, &ends, choice, out)?;
+        return Ok(());
+    }
+    drop(ends);
     append_by_status(status, pieces, choice, out)
 }
 

@@ -20,7 +20,9 @@ use std::alloc::Allocator;
 use verticals::append_verticals;
 
 mod counts;
+mod ends;
 mod few;
+mod handed;
 mod kept;
 pub mod pieces;
 pub mod rules;

@@ -149,15 +149,15 @@ pub fn compare_begins(one: Edge, other: Edge) -> Ordering
     product(rise(one), steps(other)).cmp(&product(rise(other), steps(one)))
 }
 
-// How far the edge goes up.
-fn rise(edge: Edge) -> i64
+/// How far the edge goes up.
+pub(crate) fn rise(edge: Edge) -> i64
     ensures { result ≡ rise edge }
 {
     edge.y1 as i64 - edge.y0 as i64
 }
 
-// How far the edge goes along x, and 1 where it goes nowhere, so that all are in one order.
-fn steps(edge: Edge) -> i64
+/// How far the edge goes along x, and 1 where it goes nowhere, so that all are in one order.
+pub(crate) fn steps(edge: Edge) -> i64
     ensures { result ≡ steps edge }
 {
     (edge.x1 as i64 - edge.x0 as i64).max(1)
