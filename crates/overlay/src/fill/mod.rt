@@ -43,8 +43,9 @@ mod verticals;
 /// status holds is removed before and after, in every case. The memory is that of `out`.
 ///
 /// For n edges it compares O(n log n) times, and the status is asked once for each two ends between which edges go. Where these are
-/// few, each is compared with those that began before it, and the status isn't asked. The counts along a sweep line are those of
-/// Weiler and Atherton, and of Vatti; the sweep is our own.
+/// few, each is compared with those that began before it, and where most edges begin at ends of others, what is below them is what
+/// was below these: the status isn't asked then. The counts along a sweep line are those of Weiler and Atherton, and of Vatti; the
+/// sweep is our own.
 pub fn fill<C, A>(
     subject: &[Edge],
     clip: &[Edge],
