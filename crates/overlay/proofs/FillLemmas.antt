@@ -3,6 +3,7 @@ pub mod Along
 pub mod Aside
 pub mod Balance
 pub mod Callers
+pub mod Carried
 pub mod Columns
 pub mod Filled
 pub mod Handed

@@ -1,6 +1,7 @@
 -- Lemmas on the sweep of a fill: what stands in the status, what is below a piece that begins, and how the edges kept begin.
 pub mod Begun
 pub mod Below
+pub mod Carried
 pub mod Few
 pub mod First
 pub mod Handed

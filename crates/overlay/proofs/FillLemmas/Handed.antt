@@ -35,7 +35,7 @@ use Rattle.noding.proofs.SnapLemmas.Numbers.{product_positive}
 -- ---- on which side of an edge another one is, by one height
 
 -- a greater height is greater by any run
-by_run : (k a b : ℤ) → pos 0 <ℤ k → a <ℤ b → (a *ℤ k) <ℤ (b *ℤ k)
+pub by_run : (k a b : ℤ) → pos 0 <ℤ k → a <ℤ b → (a *ℤ k) <ℤ (b *ℤ k)
 by_run k a b some less =
     let above = product_positive k (b -ℤ a) some (omega (arith, ints, less)) in
     let apart : (k *ℤ (b -ℤ a)) ≡ ((b *ℤ k) -ℤ (a *ℤ k)) = identity (times (number k) (minus (number b) (number a))) (minus (times (number b) (number k)) (times (number a) (number k))) (omega arith) in
@@ -44,7 +44,7 @@ by_run k a b some less =
 exchanged : (y m n : ℤ) → ((y *ℤ m) *ℤ n) ≡ ((y *ℤ n) *ℤ m)
 exchanged y m n = identity (times (times (number y) (number m)) (number n)) (times (times (number y) (number n)) (number m)) (omega arith)
 
-at_end : (edge : Edge) → height_by_run edge edge.x1 ≡ (edge.y1 *ℤ run edge)
+pub at_end : (edge : Edge) → height_by_run edge edge.x1 ≡ (edge.y1 *ℤ run edge)
 at_end edge =
     identity (plus (times (number edge.y0) (minus (number edge.x1) (number edge.x1))) (times (number edge.y1) (minus (number edge.x1) (number edge.x0))))
     (times (number edge.y1) (minus (number edge.x1) (number edge.x0)))
@@ -78,7 +78,7 @@ module _ (e h : Edge) (uncrossed : Uncrossed e h) (some : e.x0 <ℤ e.x1) (some_
       lt_false (height_by_runs e h x +ℤ height_by_runs e h (x +ℤ pos 1)) (height_by_runs h e x +ℤ height_by_runs h e (x +ℤ pos 1)) (omega (arith, ints, one, two))
 
   -- and what is below it is
-  below-lower : height_by_run e z <ℤ (y *ℤ run e) → is_lower_on x e h ≡ true
+  pub below-lower : height_by_run e z <ℤ (y *ℤ run e) → is_lower_on x e h ≡ true
   below-lower below =
       let more = by_run (run h) (height_by_run e z) (y *ℤ run e) (omega (arith, ints)) below in
       let is = gap_at in
@@ -92,6 +92,20 @@ module _ (e h : Edge) (uncrossed : Uncrossed e h) (some : e.x0 <ℤ e.x1) (some_
         | inr same ↦ let there : pos 0 <ℤ gap e h (x +ℤ pos 1) = subst (λ (a : ℤ). pos 0 <ℤ gap e h a) same some_gap in omega (arith, ints, there, one)
       ] in
       lt_true (height_by_runs e h x +ℤ height_by_runs e h (x +ℤ pos 1)) (height_by_runs h e x +ℤ height_by_runs h e (x +ℤ pos 1)) (omega (arith, ints, sum))
+
+  -- what is above it is higher
+  pub above-higher : (y *ℤ run e) <ℤ height_by_run e z → is_lower_on x h e ≡ true
+  above-higher above =
+      let more = by_run (run h) (y *ℤ run e) (height_by_run e z) (omega (arith, ints)) above in
+      let is = gap_at in
+      let less : gap e h z <ℤ pos 0 = omega (arith, ints, more, is) in
+      let one = on z x z_from z_upto (omega (arith, ints)) (omega (arith, ints)) less in
+      let two = on z (x +ℤ pos 1) z_from z_upto (omega (arith, ints)) (omega (arith, ints)) less in
+      let sum : (gap e h x +ℤ gap e h (x +ℤ pos 1)) <ℤ pos 0 = elim at [
+        | inl same ↦ let there : gap e h x <ℤ pos 0 = subst (λ (a : ℤ). gap e h a <ℤ pos 0) same less in omega (arith, ints, there, two)
+        | inr same ↦ let there : gap e h (x +ℤ pos 1) <ℤ pos 0 = subst (λ (a : ℤ). gap e h a <ℤ pos 0) same less in omega (arith, ints, there, one)
+      ] in
+      lt_true (height_by_runs h e x +ℤ height_by_runs h e (x +ℤ pos 1)) (height_by_runs e h x +ℤ height_by_runs e h (x +ℤ pos 1)) (omega (arith, ints, sum))
 
 -- ---- of two that end at one point the steeper one is lower
 
@@ -249,33 +263,27 @@ module _ (q g : Edge) (q_some : q.x0 <ℤ q.x1) (g_some : g.x0 <ℤ g.x1) (w x y
 no_difference : (a b c d : ℤ) → (a -ℤ b) ≡ (c -ℤ d) → (b +ℤ c) ≡ (a +ℤ d)
 no_difference a b c d is = omega (arith, ints, is)
 
+-- what counts ahead, with what ended, weighs what counted behind, with what has begun
+pub moved-totals : (pieces : List Piece) (behind ahead ended begun : Edge → Bool) (weigh : Piece → ℤ) → ((e : Piece) → Contains pieces e → Moves (behind e.edge) (ahead e.edge) (ended e.edge) (begun e.edge))
+    → (total (asked ahead weigh) pieces +ℤ total (asked ended weigh) pieces) ≡ (total (asked behind weigh) pieces +ℤ total (asked begun weigh) pieces)
+moved-totals pieces behind ahead ended begun weigh moves =
+    no_difference (total (asked behind weigh) pieces) (total (asked ahead weigh) pieces) (total (asked ended weigh) pieces) (total (asked begun weigh) pieces)
+    (sym (total-difference (asked behind weigh) (asked ahead weigh) pieces)
+    ∙ total-same (λ p. asked behind weigh p -ℤ asked ahead weigh p) (λ p. asked ended weigh p -ℤ asked begun weigh p) pieces
+    (All-among (λ (e : Piece). (asked behind weigh e -ℤ asked ahead weigh e) ≡ (asked ended weigh e -ℤ asked begun weigh e)) pieces
+    (λ e among. moves-weighed (behind e.edge) (ahead e.edge) (ended e.edge) (begun e.edge) (weigh e) (moves e among)))
+    ∙ total-difference (asked ended weigh) (asked begun weigh) pieces)
+
 module _ (pieces : List Piece) (fill : AreFillPieces pieces) (q g : Piece) (w : ℤ) (q_in : Contains pieces q) (from : q.edge.x0 ≤ℤ w) (before : w <ℤ q.edge.x1)
     (moves : (e : Piece) → Contains pieces e → Moves (is_below_on w q.edge e.edge) (is_below_on g.edge.x0 g.edge e.edge) (ends_below (start_of g.edge) e.edge) (begins_below (start_of g.edge) e.edge)) where
   handed-on : (edges : List Edge) (weigh : Piece → ℤ) → IsClosed edges → All (IsAside q.edge) edges → AreJoined edges weigh pieces
       → (total (asked (is_below_on g.edge.x0 g.edge) weigh) pieces +ℤ total (asked (ends_below (start_of g.edge)) weigh) pieces)
       ≡ (total (asked (is_below_on q.edge.x0 q.edge) weigh) pieces +ℤ total (asked (begins_below (start_of g.edge)) weigh) pieces)
   handed-on edges weigh closed noded joined =
-      no_difference (total behind pieces) (total ahead pieces) (total ended pieces) (total begun pieces)
-      (sym (total-difference behind ahead pieces)
-      ∙ total-same (λ p. behind p -ℤ ahead p) (λ p. ended p -ℤ begun p) pieces
-      (All-among (λ (e : Piece). (behind e -ℤ ahead e) ≡ (ended e -ℤ begun e)) pieces
-      (λ e among. moves-weighed (is_below_on w q.edge e.edge) (is_below_on g.edge.x0 g.edge e.edge) (ends_below (start_of g.edge) e.edge) (begins_below (start_of g.edge) e.edge) (weigh e) (moves e among)))
-      ∙ total-difference ended begun pieces)
-      ∙ ap (λ (z : ℤ). z +ℤ total begun pieces) along
+      moved-totals pieces (is_below_on w q.edge) (is_below_on g.edge.x0 g.edge) (ends_below (start_of g.edge)) (begins_below (start_of g.edge)) weigh moves
+      ∙ ap (λ (z : ℤ). z +ℤ total (asked (begins_below (start_of g.edge)) weigh) pieces) along
     where
-      behind : Piece → ℤ
-      behind = asked (is_below_on w q.edge) weigh
-
-      ahead : Piece → ℤ
-      ahead = asked (is_below_on g.edge.x0 g.edge) weigh
-
-      ended : Piece → ℤ
-      ended = asked (ends_below (start_of g.edge)) weigh
-
-      begun : Piece → ℤ
-      begun = asked (begins_below (start_of g.edge)) weigh
-
-      along : total behind pieces ≡ total (asked (is_below_on q.edge.x0 q.edge) weigh) pieces
+      along : total (asked (is_below_on w q.edge) weigh) pieces ≡ total (asked (is_below_on q.edge.x0 q.edge) weigh) pieces
       along = sym (joined (is_below_on w q.edge)) ∙ count-along q.edge w edges (balanced edges closed) noded from before ∙ joined (is_below_on q.edge.x0 q.edge)
 
   -- What is below g, with what has ended in the column below it, weighs what was below q, with what has begun there.

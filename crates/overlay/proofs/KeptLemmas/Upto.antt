@@ -69,7 +69,7 @@ module _ (pieces : List Piece) (fill : AreFillPieces pieces) where
   differ i j less within = fill.are.distinct i j no_piece less within
 
   -- of two that begin at one x the first one is lower there
-  begins-first : (i j : ℕ) → i < j → j < length pieces → (piece_at pieces i).edge.x0 ≡ (piece_at pieces j).edge.x0 → is_lower_on (piece_at pieces j).edge.x0 (piece_at pieces i).edge (piece_at pieces j).edge ≡ true
+  pub begins-first : (i j : ℕ) → i < j → j < length pieces → (piece_at pieces i).edge.x0 ≡ (piece_at pieces j).edge.x0 → is_lower_on (piece_at pieces j).edge.x0 (piece_at pieces i).edge (piece_at pieces j).edge ≡ true
   begins-first i j less within level =
       let first : i < length pieces = omega (arith, less, within) in
       subst (λ (x : ℤ). is_lower_on x (piece_at pieces i).edge (piece_at pieces j).edge ≡ true) level

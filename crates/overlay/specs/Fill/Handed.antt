@@ -1,5 +1,5 @@
 -- Where pieces end, and what those that end hand on to those that begin there. For private contracts.
-use Rattle.std.specs.Prelude.{◌≡◌, ◌⊎◌, ◌<◌, ◌≤◌, ◌-◌, ℕ, Bool, ◌&&◌, ℤ, ◌*ℤ◌, ◌≤ℤ◌, ◌<ℤ◌, List, All, AllPairs, Contains, get_or, length, take}
+use Rattle.std.specs.Prelude.{◌≡◌, ◌⊎◌, ◌<◌, ◌≤◌, ◌-◌, ℕ, Bool, ◌&&◌, ℤ, ◌+ℤ◌, ◌-ℤ◌, ◌*ℤ◌, ◌≤ℤ◌, ◌<ℤ◌, List, All, AllPairs, Contains, get_or, length, take}
 use Rattle.std.specs.List.{filter}
 use Rattle.std.specs.Int.Signed.{lt_z}
 use Rattle.std.specs.Ordering.{int_cmp, int_eq}
@@ -7,9 +7,10 @@ use Rattle.std.specs.declared.cmp.Ordering.{Ordering}
 use Rattle.plane.specs.declared.edge.Edge.{Edge}
 use Rattle.plane.specs.declared.point.Point.{Point}
 use Rattle.plane.specs.declared.sweep_line.active.ActiveEdge.{ActiveEdge}
-use Rattle.plane.specs.Ends.{end_of}
+use Rattle.plane.specs.Ends.{end_of, start_of}
 use Rattle.plane.specs.SweepLine.Active.{then_cmp}
 use Rattle.plane.specs.SweepLine.Heights.{rise}
+use Rattle.overlay.specs.declared.fill.counts.Counts.{Counts}
 use Rattle.overlay.specs.declared.fill.pieces.Piece.{Piece}
 use Rattle.overlay.specs.Fill.Begins.{steps}
 use Rattle.overlay.specs.Fill.Sweep.{no_piece}
@@ -47,6 +48,25 @@ pub record IsHandedBy (begun : List Piece) (ends : List ActiveEdge) (next : ℕ)
   pub at : end_of (get_or ends next no_end).edge ≡ point
   pub first : 0 < next → (get_or ends (next - 1) no_end).edge.x1 <ℤ point.x
   pub earlier : 0 < length begun → (get_or begun (length begun - 1) no_piece).edge.x0 <ℤ point.x
+
+-- The next of the ends is at the point, of the piece at this place. The end before it, of the other piece, and the beginning of the
+-- last piece that has begun are at one point below, in the same column.
+pub record IsCarriedBy (begun : List Piece) (ends : List ActiveEdge) (next : ℕ) (point : Point) (place other : ℕ) : Type 0 where
+  pub within : next < length ends
+  pub some : 0 < length begun
+  pub is : (get_or ends next no_end).place ≡ place
+  pub other_is : (get_or ends (next - 1) no_end).place ≡ other
+  pub at : end_of (get_or ends next no_end).edge ≡ point
+  pub column : (get_or begun (length begun - 1) no_piece).edge.x0 ≡ point.x
+  pub lower : (get_or begun (length begun - 1) no_piece).edge.y0 <ℤ point.y
+  pub meets : end_of (get_or ends (next - 1) no_end).edge ≡ start_of (get_or begun (length begun - 1) no_piece).edge
+
+-- What is below the one, with what is above the last piece at the point below, less what is above the piece that ended there.
+abbrev pub carried : Counts → Counts → Counts → Piece → Counts
+carried below above other ended = record {
+  subject = (below.subject +ℤ above.subject) -ℤ (other.subject +ℤ ended.subject);
+  clip = (below.clip +ℤ above.clip) -ℤ (other.clip +ℤ ended.clip);
+}
 
 -- The edge ends, or begins, in the point's column, below the point.
 abbrev pub ends_below : Point → Edge → Bool

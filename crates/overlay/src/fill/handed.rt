@@ -1,12 +1,13 @@
 //! The fill of pieces most of which begin where others end: what was below the lowest one that ends is below the lowest one that
-//! begins.
+//! begins, and in a column the difference between both sides stays from one point to the next.
 
-ghost use Rattle.std.specs.Prelude.{◌≡◌, ◌≢◌, ◌++◌, ◌-◌, ◌<◌, ◌^◌, ◌≤ℤ◌, ◌<ℤ◌, ℕ, true, All, AllPairs, IfOk, IfSome, OnOk, OnErr, get_or, length};
+ghost use Rattle.std.specs.Prelude.{◌≡◌, ◌≢◌, ◌++◌, ◌-◌, ◌<◌, ◌^◌, ◌+ℤ◌, ◌-ℤ◌, ◌≤ℤ◌, ◌<ℤ◌, pos, ℕ, true, All, AllPairs, IfOk, IfSome, OnOk, OnErr, get_or, length};
 ghost use Rattle.std.specs.List.{filter};
 ghost use Rattle.overlay.specs.Fill.Few.{LastBeginsAt, counts_upto};
-ghost use Rattle.overlay.specs.Fill.Handed.{AreEnds, HasLooked, IsHandedBy, goes_on};
+ghost use Rattle.overlay.specs.Fill.Handed.{AreEnds, HasLooked, IsCarriedBy, IsHandedBy, carried, goes_on};
 ghost use Rattle.overlay.specs.Fill.Rules.{is_result};
-ghost use Rattle.overlay.specs.Fill.Sweep.{AreFillPieces, WeighUpto, kept_of, no_piece, nothing};
+ghost use Rattle.overlay.specs.Fill.Sweep.{AreFillPieces, Fits, WeighUpto, kept_of, no_piece, nothing};
+ghost use Rattle.plane.specs.Ends.{end_of, start_of};
 ghost use Rattle.plane.specs.Lists.{Extends};
 
 use super::counts::{Counts, is_result, keep, plus};
@@ -47,7 +48,10 @@ pub fn are_few_looks(pieces: &[Piece], ends: &[ActiveEdge]) -> bool {
 
 // At how many pieces the sweep looks where one begins at the point: none, or those that have begun and not ended.
 fn looks_at(begun: &[Piece], ends: &[ActiveEdge], next_end: usize, point: Point) -> usize {
-    if last_begins_at(begun, point) || handed_by(begun, ends, next_end, point).is_some() {
+    if last_begins_at(begun, point)
+        || handed_by(begun, ends, next_end, point).is_some()
+        || carried_by(begun, ends, next_end, point).is_some()
+    {
         return 0;
     }
     begun.len().saturating_sub(next_end)
@@ -55,8 +59,9 @@ fn looks_at(begun: &[Piece], ends: &[ActiveEdge], next_end: usize, point: Point)
 
 /// Appends the edges kept of these pieces, as `append_kept` does, where `ends` are the pieces as they end.
 ///
-/// What is below a piece that begins where others end, and alone in its column, is what was below the lowest of these. Else it is
-/// counted over those that go on. It is refused for want of memory alone.
+/// What is below a piece that begins where others end is known by what was below the lowest of these. Where nothing ends there, or
+/// where pieces end or begin below in its column without the other, it is counted over those that go on. It is refused for want of
+/// memory alone.
 pub fn append_by_handing<A: Allocator + Copy>(
     pieces: &[Piece],
     ends: &[ActiveEdge],
@@ -98,7 +103,7 @@ pub fn append_by_handing<A: Allocator + Copy>(
 }
 
 // What is below a piece that begins at the point, where that is known: it is above the last piece, which begins there too, or was
-// below one that ends there.
+// below one that ends there; or at the point below in the column it is known what is above on both sides.
 fn known_below(
     begun: &[Piece],
     ends: &[ActiveEdge],
@@ -110,13 +115,20 @@ fn known_below(
     requires above { LastBeginsAt point begun.now → above ≡ counts_upto point begun.now }
     requires below { (place : ℕ) → IsHandedBy begun.now ends.now next_end point place
         → (place < length below.now) × (get_or below.now place nothing ≡ counts_upto point begun.now) }
+    requires carried { (place other : ℕ) → IsCarriedBy begun.now ends.now next_end point place other
+        → (place < length below.now) × (other < length begun.now) × (other < length below.now)
+        × (carried (get_or below.now place nothing) above (get_or below.now other nothing) (get_or begun.now other no_piece) ≡ counts_upto point begun.now) }
+    requires within { Fits (counts_upto point begun.now) no_piece }
     ensures { IfSome result (λ counts. counts ≡ counts_upto point begun.now) }
 {
     if last_begins_at(begun, point) {
         return Some(above);
     }
-    match handed_by(begun, ends, next_end, point) {
-        Some(place) => Some(below[place]),
+    if let Some(place) = handed_by(begun, ends, next_end, point) {
+        return Some(below[place]);
+    }
+    match carried_by(begun, ends, next_end, point) {
+        Some((place, other)) => Some(carried(below[place], above, below[other], begun[other])),
         None => None,
     }
 }
@@ -138,6 +150,82 @@ fn handed_by(begun: &[Piece], ends: &[ActiveEdge], next_end: usize, point: Point
     } else {
         None
     }
+}
+
+// The places of the piece that ends at the point, and of the last one that ended at the point below in its column, where the last
+// piece has begun at that point below.
+fn carried_by(
+    begun: &[Piece],
+    ends: &[ActiveEdge],
+    next_end: usize,
+    point: Point,
+) -> Option<(usize, usize)>
+    ensures { IfSome result (λ both. IsCarriedBy begun.now ends.now next_end point both.0 both.1) }
+{
+    if next_end == 0 || ends.len() <= next_end || begun.is_empty() {
+        return None;
+    }
+    let next = ends[next_end];
+    let before = ends[next_end - 1];
+    let last = begun[begun.len() - 1];
+    if ends_at(next.edge, point)
+        && is_below(last.edge, point)
+        && ends_at(before.edge, start_of(last.edge))
+    {
+        Some((next.place, before.place))
+    } else {
+        None
+    }
+}
+
+// Whether the edge ends at the point.
+fn ends_at(edge: Edge, point: Point) -> bool
+    ensures { result ≡ true → end_of edge ≡ point }
+{
+    edge.x1 == point.x && edge.y1 == point.y
+}
+
+// Whether the edge begins below the point in its column.
+fn is_below(edge: Edge, point: Point) -> bool
+    ensures { result ≡ true → (edge.x0 ≡ point.x) × (edge.y0 <ℤ point.y) }
+{
+    edge.x0 == point.x && edge.y0 < point.y
+}
+
+// What was below one piece, with what is above a second one, less what was above a third one.
+fn carried(below: Counts, above: Counts, other: Counts, ended: Piece) -> Counts
+    requires { Fits (carried below above other ended) no_piece }
+    ensures { result ≡ carried below above other ended }
+{
+    Counts {
+        subject: sum_less(below.subject, above.subject, other.subject, ended.subject),
+        clip: sum_less(below.clip, above.clip, other.clip, ended.clip),
+    }
+}
+
+// The sum of two numbers less that of two others, where it is a number of 64 bits.
+fn sum_less(one: i64, two: i64, less: i64, less_too: i64) -> i64
+    requires from { (pos 0 -ℤ pos (2 ^ 63)) ≤ℤ ((one +ℤ two) -ℤ (less +ℤ less_too)) }
+    requires below { ((one +ℤ two) -ℤ (less +ℤ less_too)) <ℤ pos (2 ^ 63) }
+    ensures { result ≡ (one +ℤ two) -ℤ (less +ℤ less_too) }
+{
+    difference(wide_sum(one, two), wide_sum(less, less_too))
+}
+
+// The sum of two numbers, which may have more than 64 bits.
+fn wide_sum(one: i64, two: i64) -> i128
+    ensures { result ≡ one +ℤ two }
+{
+    one as i128 + two as i128
+}
+
+// The difference, where it is a number of 64 bits.
+fn difference(one: i128, two: i128) -> i64
+    requires from { (pos 0 -ℤ pos (2 ^ 63)) ≤ℤ (one -ℤ two) }
+    requires below { (one -ℤ two) <ℤ pos (2 ^ 63) }
+    ensures { result ≡ one -ℤ two }
+{
+    (one - two) as i64
 }
 
 // Whether the last of the pieces begins before the point's column, or there is none.

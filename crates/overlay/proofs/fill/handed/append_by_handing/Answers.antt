@@ -1,18 +1,19 @@
-use Rattle.std.proofs.Common.{◌≡◌, ◌≢◌, ◌++◌, [], ◌∷◌, ◌-◌, ◌+◌, ◌≤ℤ◌, Bool, ℕ, List, length, take, drop, get_or, append-nil, ap, ap₂, sym, subst, ◌∙◌, arith}
+use Rattle.std.proofs.Common.{◌≡◌, ◌≢◌, ◌++◌, [], ◌∷◌, ◌-◌, ◌+◌, ◌<◌, ◌≤ℤ◌, Bool, ℕ, List, length, take, drop, get_or, append-nil, ap, ap₂, sym, subst, ◌∙◌, arith}
 use Rattle.std.specs.List.{All, AllPairs}
-use Rattle.std.proofs.lemmas.List.{length-take-le, take-append-drop}
+use Rattle.std.proofs.lemmas.List.{get_or-take, length-take-le, take-append-drop}
 use Rattle.i_tree.proofs.RootLemmas.Joined.{AllPairs-front}
 use Rattle.plane.specs.declared.point.Point.{Point}
 use Rattle.plane.proofs.PairsLemmas.Extends.{OnErr-always}
 use Rattle.overlay.specs.declared.fill.pieces.Piece.{Piece}
 use Rattle.overlay.specs.Fill.Counts.{Counts, kept_edge}
 use Rattle.overlay.specs.Fill.Few.{counts_upto}
-use Rattle.overlay.specs.Fill.Handed.{HasLooked, IsHandedBy}
+use Rattle.overlay.specs.Fill.Handed.{HasLooked, IsCarriedBy, IsHandedBy}
 use Rattle.overlay.specs.Fill.Rules.{is_result}
-use Rattle.overlay.specs.Fill.Sweep.{Fits, below_of, kept_of, nothing, plus}
+use Rattle.overlay.specs.Fill.Sweep.{Fits, below_of, kept_of, no_piece, nothing, plus}
 use Rattle.overlay.proofs.KeptLemmas.Begun.{piece_at}
 use Rattle.overlay.proofs.KeptLemmas.Below.{below-fits}
-use Rattle.overlay.proofs.KeptLemmas.Few.{above-last, begun-from, below-counted, kept-more}
+use Rattle.overlay.proofs.KeptLemmas.Carried.{a-begun, carried-is, q-begun}
+use Rattle.overlay.proofs.KeptLemmas.Few.{counts-within, above-last, begun-from, below-counted, kept-more}
 use Rattle.overlay.proofs.KeptLemmas.Handed.{below-ended, handed-begun}
 use Rattle.overlay.proofs.KeptLemmas.Looked.{HasLooked-none, looked-next, noted-more, noted-size}
 use Rattle.overlay.proofs.KeptLemmas.Parts.{weigh-first_ones}
@@ -58,6 +59,42 @@ known_below-known-requires-clause-below g c =
           ∙ sym (below-counted pieces fill k within)
           ∙ ap (λ (point : Point). counts_upto point (take k pieces)) (sym c.start_of-point.ensures),
     )
+
+pub known_below-known-requires-clause-carried : goal.known_below-known-requires-clause-carried
+known_below-known-requires-clause-carried g c =
+    let pieces = c.args.pieces.now in
+    let ends = c.args.ends.now in
+    let fill = c.requires.pieces in
+    let are = c.requires.ends in
+    let k = c.loop-place.place in
+    let within = c.loop-place-test.true in
+    let next = c.count_before-next_end.result in
+    let value = c.deref.ensures.value in
+    let size = c.loop-place.invariant.size in
+    let long = ap (λ (list : List Counts). length list) value in
+    let begun = length-take-le k pieces (omega (arith, within)) in
+    λ place other told.
+    let here = subst (λ (point : Point). IsCarriedBy (take k pieces) ends next point place other) c.start_of-point.ensures told in
+    let less = q-begun pieces fill ends are k within next place other here in
+    let less_too = a-begun pieces fill ends are k within next place other here in
+    let some : 0 < k = omega (arith, less) in (
+      omega (arith, less, size, long),
+      omega (arith, less_too, begun),
+      omega (arith, less_too, size, long),
+      carried-is pieces fill ends are k within next place other here (get_or c.deref.result.now place nothing) c.loop-place.above (get_or c.deref.result.now other nothing) (get_or (take k pieces) other no_piece)
+          (ap (λ (list : List Counts). get_or list place nothing) value ∙ c.loop-place.invariant.below place less)
+          (c.loop-place.invariant.above some)
+          (ap (λ (list : List Counts). get_or list other nothing) value ∙ c.loop-place.invariant.below other less_too)
+          (get_or-take k pieces other no_piece less_too)
+          ∙ sym (below-counted pieces fill k within)
+          ∙ ap (λ (point : Point). counts_upto point (take k pieces)) (sym c.start_of-point.ensures),
+    )
+
+pub known_below-known-requires-clause-within : goal.known_below-known-requires-clause-within
+known_below-known-requires-clause-within g c =
+    let fill = c.requires.pieces in
+    let k = c.loop-place.place in
+    counts-within c.start_of-point.result (take k c.args.pieces.now) fill.most fill.countable (weigh-first_ones fill.most c.args.pieces.now fill.are.distinct fill.weigh k)
 
 pub counts_below-requires-clause-begun : goal.counts_below-requires-clause-begun
 counts_below-requires-clause-begun g c =
