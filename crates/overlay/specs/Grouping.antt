@@ -163,6 +163,10 @@ pub record ArePassed (edge : Edge) (start end : ℕ) (sides : List Side) : Type 
 abbrev pub is_outer : List Bool → ℕ → Bool
 is_outer are_outer ring = get_or are_outer ring false
 
+-- No other ring is an outer one.
+abbrev pub IsOnlyOuter : List Bool → ℕ → Type 0
+IsOnlyOuter are_outer outer = (ring : ℕ) → is_outer are_outer ring ≡ true → ring ≡ outer
+
 -- Each ring has one, which is an outer ring.
 pub record AreHomes (are_outer : List Bool) (homes : List ℕ) : Type 0 where
   pub size : length homes ≡ length are_outer

@@ -1,12 +1,12 @@
 -- Holes in the order in which they begin, and the homes that they get.
-use Rattle.std.proofs.Common.{◌≡◌, ◌≢◌, ◌⊎◌, inl, inr, ◌<◌, ◌+◌, ◌++◌, [], ◌∷◌, ℕ, ℤ, ◌≤ℤ◌, Bool, true, false, cond, List, Option, Some, None, get_or, length, map, set, refl, ap, ap₂, sym, subst, subst₂, ◌∙◌, arith}
+use Rattle.std.proofs.Common.{◌≡◌, ◌≢◌, ◌⊎◌, inl, inr, ◌<◌, ◌+◌, ◌++◌, [], ◌∷◌, ℕ, ℤ, ◌≤ℤ◌, Bool, true, false, cond, List, Option, Some, None, get_or, length, map, replicate, set, refl, ap, ap₂, sym, subst, subst₂, ◌∙◌, arith}
 use Rattle.std.specs.Cmp.{IsStrictWeakOrder}
 use Rattle.std.specs.List.{All, Contains, flat_map}
 use Rattle.std.specs.List.Sorted.{IsPermutation, IsSortedBy}
 use Rattle.std.specs.Prelude.{IfSome}
 use Rattle.std.proofs.lemmas.Bool.{cases_lt}
 use Rattle.std.proofs.lemmas.Int.{ints}
-use Rattle.std.proofs.lemmas.List.{get_or-map, get_or-set_other, get_or-set_same, get_or_default, length-map, length-set, map-append}
+use Rattle.std.proofs.lemmas.List.{get_or-map, get_or-replicate, get_or-set_other, get_or-set_same, get_or_default, length-map, length-replicate, length-set, map-append}
 use Rattle.std.proofs.lemmas.List.Elements.{All-append, All-cons, All-contains, All-nil, All-weaker, Contains-append_left, Contains-append_right}
 use Rattle.std.proofs.lemmas.List.Sorted.{All-permutation, Contains-permutation, IsPermutation-map}
 use Rattle.i_tree.proofs.RootLemmas.Joined.{AllPairs-append}
@@ -20,7 +20,7 @@ use Rattle.overlay.specs.Fill.Begins.{BeginInOrder, BeginsUpto}
 use Rattle.overlay.specs.Fill.Counts.{is_lower_on, is_over}
 use Rattle.overlay.specs.Fill.Filled.{AreDistinct, AreNoded, HaveSameEnds}
 use Rattle.overlay.specs.Fill.Turned.{piece_of}
-use Rattle.overlay.specs.Grouping.{AreFirsts, AreFirstsUpto, AreHomes, AreInTurn, AreTold, IsBelow, IsFirstOf, IsHoleOf, IsSettled, IsSideOf, IsTold, IsUntold, ShareHomes, firsts_of, home_of, is_outer, no_side, pieces_of}
+use Rattle.overlay.specs.Grouping.{AreFirsts, AreFirstsUpto, AreHomes, AreInTurn, AreTold, IsBelow, IsFirstOf, IsHoleOf, IsOnlyOuter, IsSettled, IsSideOf, IsTold, IsUntold, ShareHomes, firsts_of, home_of, is_outer, no_side, pieces_of}
 use Rattle.overlay.specs.Nesting.{IsNextBelow}
 use Rattle.overlay.specs.Polygons.{first_sloped, is_counterclockwise}
 use Rattle.overlay.specs.declared.fill.pieces.Operand.TheVariants.{Subject}
@@ -31,6 +31,7 @@ use Rattle.overlay.proofs.FillLemmas.Kept.{same-exchanged}
 use Rattle.overlay.proofs.FillLemmas.Level.{MeetOnly}
 use Rattle.overlay.proofs.FillLemmas.Order.{lower-apart, lower-asym, lower-irrefl}
 use Rattle.overlay.proofs.FillLemmas.Tests.{over_is}
+use Rattle.overlay.proofs.GroupingLemmas.Bags.{Contains-flat_map}
 use Rattle.overlay.proofs.GroupingLemmas.Begins.{IsFirst, Told, told-all}
 use Rattle.overlay.proofs.GroupingLemmas.Highest.{same-or, side-among, side-edge, side-right, sides-meet}
 use Rattle.overlay.proofs.GroupingLemmas.Told.{first-at, no_hole}
@@ -398,3 +399,35 @@ firsts-sorted rings count holes sorted size moved are order = record {
   where
     firsts_moved : IsPermutation (firsts_of holes) (firsts_of sorted)
     firsts_moved = IsPermutation-map (λ (hole : Hole). hole.first) holes sorted moved
+
+-- ---- one outer ring alone
+
+pub homes-all : (are_outer : List Bool) (outer : ℕ) → is_outer are_outer outer ≡ true → AreHomes are_outer (replicate (length are_outer) outer)
+homes-all are_outer outer is = record {
+  size = length-replicate (length are_outer) outer;
+  outer = λ k d within. (
+      let size = length-replicate (length are_outer) outer in
+      subst (λ (home : ℕ). is_outer are_outer home ≡ true) (sym (get_or-replicate (length are_outer) k outer d (omega (arith, within, size)))) is
+      );
+}
+
+-- then all rings have its home
+module _ (rings : List (List Point)) (are_outer : List Bool) (homes : List ℕ) (outer : ℕ) (marks : are_outer ≡ map is_counterclockwise rings) (only : IsOnlyOuter are_outer outer) (are : AreHomes are_outer homes) where
+  one-home : (ring : ℕ) → ring < length rings → home_of are_outer homes ring ≡ outer
+  one-home ring within = go (is_outer are_outer ring) refl
+    where
+      inside : ring < length homes
+      inside = let size = are.size in let marked = ap (λ (list : List Bool). length list) marks ∙ length-map rings is_counterclockwise in omega (arith, within, size, marked)
+
+      go : (is : Bool) → is_outer are_outer ring ≡ is → cond is ring (get_or homes ring 0) ≡ outer
+      go true is = only ring is
+      go false is = only (get_or homes ring 0) (are.outer ring 0 inside)
+
+  pub share-one : ShareHomes rings are_outer homes
+  share-one hole first below within hole_is first_is next =
+      let (ring, (k, inside, at), has) = Contains-flat_map ring_edges rings below next.among in (
+        k,
+        inside,
+        subst (λ (points : List Point). Contains (ring_edges points) below) (sym (get_or_default rings k [] ring inside ∙ at)) has,
+        one-home hole within ∙ sym (one-home k inside),
+      )

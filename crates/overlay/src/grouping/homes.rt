@@ -3,7 +3,7 @@
 ghost use Rattle.std.specs.Prelude.{◌≡◌, ◌<◌, [], false, true, All, IfErr, IfOk, IfSome, OnOk, length, map};
 ghost use Rattle.i_tree.specs.declared.Refusal.TheVariants.{OutOfMemory};
 ghost use Rattle.i_tree.specs.Root.Handles.{HasAllHandles};
-ghost use Rattle.overlay.specs.Grouping.{AreFirsts, AreHomes, AreInTurn, AreTold, IsSettled, IsUntold, ShareHomes, firsts_of, home_of, is_outer};
+ghost use Rattle.overlay.specs.Grouping.{AreFirsts, AreHomes, AreInTurn, AreTold, IsOnlyOuter, IsSettled, IsUntold, ShareHomes, firsts_of, home_of, is_outer};
 ghost use Rattle.overlay.specs.Polygons.{BoundsSome, is_counterclockwise};
 ghost use Rattle.overlay.specs.Rings.{AreEnds, edges_in, rings_of};
 
@@ -42,10 +42,25 @@ where
     ensures refused { HasAllHandles C.has_handles → IfErr result (λ cause. cause ≡ OutOfMemory) }
 {
     let mut homes = vec![in alloc; outer; are_outer.len()]?;
+    if is_only_outer(are_outer, outer) {
+        return Ok(homes);
+    }
     let mut holes = holes_in_order(alloc, points, ends, are_outer)?;
     find_below(alloc, status, points, ends, &mut holes)?;
     settle_holes(&holes, are_outer, &mut homes);
     Ok(homes)
+}
+
+// Whether no other ring is an outer one. Then all holes are of its polygon, whatever is below them.
+fn is_only_outer(are_outer: &[bool], outer: usize) -> bool
+    ensures { result ≡ true → IsOnlyOuter are_outer.now outer }
+{
+    for (ring, is_outer) in are_outer.iter().enumerate() {
+        if *is_outer && ring != outer {
+            return false;
+        }
+    }
+    true
 }
 
 // Finds the highest side of all rings below each hole: by a walk, or by a sweep where a walk passes many holes.

@@ -1,10 +1,17 @@
-use Rattle.std.proofs.Common.{List, subst, sym, ◌∙◌}
+use Rattle.std.proofs.Common.{◌≡◌, List, length, replicate, subst, sym, ◌∙◌}
 use Rattle.std.proofs.lemmas.List.{take_at}
-use Rattle.overlay.specs.Grouping.{AreTold, firsts_of}
+use Rattle.overlay.specs.Grouping.{AreHomes, AreTold, firsts_of}
 use Rattle.overlay.specs.Rings.{rings_of}
 use Rattle.overlay.specs.declared.grouping.holes.Hole.{Hole}
-use Rattle.overlay.proofs.GroupingLemmas.Homes.{holes-marked, in-turn, share-homes}
+use Rattle.overlay.proofs.GroupingLemmas.Homes.{holes-marked, homes-all, in-turn, share-homes, share-one}
 use Rattle.overlay.proofs.grouping.homes.homes.Goals as goal
+
+pub returns-then-is_only_outer-clause-share : goal.returns-then-is_only_outer-clause-share
+returns-then-is_only_outer-clause-share g c =
+    let are_outer = c.args.are_outer.now in
+    let all : c.in_ok-homes.homes.items ≡ replicate (length are_outer) c.args.outer = c.in_ok-homes.ensures.items_if_clones_equal (λ y same. same) in
+    share-one (rings_of c.args.points.now 0 c.args.ends.now) are_outer c.in_ok-homes.homes.items c.args.outer c.requires.marks (c.is_only_outer.ensures c.if-is_only_outer.true)
+    (subst (AreHomes are_outer) (sym all) (homes-all are_outer c.args.outer c.requires.outer))
 
 pub settle_holes-requires-clause-of : goal.settle_holes-requires-clause-of
 settle_holes-requires-clause-of g c =
