@@ -23,6 +23,7 @@ pub mod Paths
 pub mod Pieces
 pub mod Resting
 pub mod Reversed
+pub mod Rising
 pub mod Rounding
 pub mod Slanted
 pub mod Sums

@@ -1,9 +1,10 @@
 -- Stops of edges at crossings of two others. For private contracts.
-use Rattle.std.specs.Prelude.{◌≡◌, ◌⊎◌, ℕ, List, All, Contains, Some, slice_get}
+use Rattle.std.specs.Prelude.{◌≡◌, ◌⊎◌, ℕ, ◌<◌, ◌≤◌, pos, ◌-ℤ◌, ◌*ℤ◌, ◌≤ℤ◌, ◌<ℤ◌, List, All, AllPairs, Contains, Some, get_or, slice_get}
 use Rattle.plane.specs.declared.edge.Edge.{Edge}
 use Rattle.plane.specs.declared.point.Point.{Point}
 use Rattle.plane.specs.Ends.{edge_between, end_of, start_of}
-use Rattle.noding.specs.Chains.{IsEnd}
+use Rattle.plane.specs.Lines.{height_over, margin_of}
+use Rattle.noding.specs.Chains.{IsEnd, Passes, Upto}
 use Rattle.noding.specs.Close.{PassesPoint}
 use Rattle.noding.specs.Stops.{IsStopAlong, point_of}
 use Rattle.noding.specs.declared.crossings.Crossing.{Crossing}
@@ -25,6 +26,31 @@ IsUnclosed edges crossing = (one other : Edge) → slice_get edges crossing.one 
 -- Nor at any of them.
 abbrev pub NoneCloses : List Edge → List Crossing → Type 0
 NoneCloses edges crossings = All (IsUnclosed edges) crossings
+
+-- The edge doesn't come down over the line: its end lies as far to the line's left as its start, or further.
+abbrev pub RisesOver : Edge → Edge → Type 0
+RisesOver line edge = height_over line (start_of edge) ≤ℤ height_over line (end_of edge)
+
+-- The point lies below the line, or above it, beyond twice its margin.
+abbrev pub LiesFarBelow : Edge → Point → Type 0
+LiesFarBelow line point = height_over line point <ℤ (pos 0 -ℤ (pos 2 *ℤ margin_of line))
+
+abbrev pub LiesFarAbove : Edge → Point → Type 0
+LiesFarAbove line point = (pos 2 *ℤ margin_of line) <ℤ height_over line point
+
+-- The stops stand in the order along the edge, which passes them.
+pub record StandAlong (edge : Edge) (stops : List Stop) : Type 0 where
+  pub in_order : AllPairs (λ one other. Upto edge (point_of edge one).x (point_of edge one).y (point_of edge other).x (point_of edge other).y) stops
+  pub passed : All (λ stop. Passes edge (point_of edge stop).x (point_of edge stop).y) stops
+
+-- The one edge passes none of the other's stops from the one place on and before the other.
+abbrev pub NonePassed : Edge → Edge → ℕ → ℕ → List Stop → Type 0
+NonePassed line other start end stops =
+    (k : ℕ) (d : Stop) → start ≤ k → k < end → ¬ (Passes line (point_of other (get_or stops k d)).x (point_of other (get_or stops k d)).y)
+
+-- The edge at the stop's place passes it.
+abbrev pub PassesItsEdge : List Edge → Stop → Type 0
+PassesItsEdge edges stop = (edge : Edge) → slice_get edges stop.place ≡ Some edge → Passes edge (point_of edge stop).x (point_of edge stop).y
 
 -- The stop is that of the edge, which is at this place, at a stop of the other edge, if it passes that between its ends.
 abbrev pub IsStopAtOther : ℕ → Edge → Edge → Stop → Stop → Type 0

@@ -1,7 +1,8 @@
 //! Stops of edges at crossings of two others: an edge that passes one comes close to one of the two, mostly.
 
 ghost use Rattle.std.specs.Prelude.{◌≡◌, ◌⊎◌, ◌<◌, ◌≤◌, ◌++◌, List, All, AllPairs, Contains, MatchBool, length, true, IfOk, OnOk};
-ghost use Rattle.noding.specs.Beside.{ClosesAt, IsFrom, IsStopAtOther, IsStopBeside, NoneCloses};
+ghost use Rattle.plane.specs.Ends.{reversed};
+ghost use Rattle.noding.specs.Beside.{ClosesAt, IsFrom, IsStopAtOther, IsStopBeside, LiesFarAbove, LiesFarBelow, NoneCloses, NonePassed, PassesItsEdge, RisesOver, StandAlong};
 ghost use Rattle.noding.specs.Distinct.{AreStarts};
 ghost use Rattle.noding.specs.Stops.{IsBefore, IsStopAlong};
 ghost use Rattle.noding.specs.declared.stops.Stop.{Stop};
@@ -11,61 +12,17 @@ use crate::crossings::{Crossing, is_end_of_one};
 use crate::distinct::{starts_of, stops_at};
 use crate::passing::passes_inside;
 use crate::stops::{Stop, point_of, stop_of};
-use plane::edge::{Edge, edge_between, end_of, start_of};
+use plane::edge::{Edge, edge_between, end_of, height_over, margin_of, reverse, start_of};
 use plane::point::Point;
 use std::alloc::{AllocError, Allocator};
 
-// So many looks at a stop take about as long as one crossing does where it is sought in sections of all edges.
-const LOOKS_PER_CROSSING: usize = 64;
-
-/// Whether the pairs of edges that come close soon tell all that passes their crossings, and do tell it.
+/// Whether no edge from an end of the one to an end of the other of two edges that cross passes their crossing. Of crossings at ends
+/// nothing is asked.
 ///
 /// An edge that passes what two others cross at comes close to one of them, unless it shares an end with both: then it leads from
-/// an end of the one to an end of the other. Whether any edge that led so would pass the crossing is looked at here.
-pub fn are_told_by_pairs<A: Allocator>(
-    alloc: A,
-    edges: &[Edge],
-    pairs: &[(usize, usize)],
-    crossings: &[Crossing],
-) -> Result<bool, AllocError>
-    requires within { All (λ pair. (pair.0 < length edges.now) × (pair.1 < length edges.now)) pairs.now }
-    requires crossings { All (λ crossing. (crossing.one < length edges.now) × (crossing.other < length edges.now)) crossings.now }
-    ensures { IfOk result (λ are_told. are_told ≡ true → NoneCloses edges.now crossings.now) }
-{
-    let looks = looks_at(alloc, edges.len(), pairs)?;
-    if looks > crossings.len().saturating_mul(LOOKS_PER_CROSSING) {
-        return Ok(false);
-    }
-    Ok(none_closes(edges, crossings))
-}
-
-// About how many looks it takes to ask the edges of each pair about each other's stops.
-fn looks_at<A: Allocator>(
-    alloc: A,
-    count: usize,
-    pairs: &[(usize, usize)],
-) -> Result<usize, AllocError>
-    requires { All (λ pair. (pair.0 < count) × (pair.1 < count)) pairs.now }
-{
-    let mut numbers = vec![in alloc; 0usize; count]?;
-    for pair in pairs {
-        numbers[pair.0] = numbers[pair.0].saturating_add(1);
-        numbers[pair.1] = numbers[pair.1].saturating_add(1);
-    }
-    Ok(sum_of_squares(&numbers))
-}
-
-fn sum_of_squares(numbers: &[usize]) -> usize {
-    let mut sum = 0usize;
-    for number in numbers {
-        sum = sum.saturating_add(number.saturating_mul(*number));
-    }
-    sum
-}
-
-// Whether no edge from an end of the one to an end of the other of two edges that cross passes their crossing. Of crossings at ends
-// nothing is asked.
-fn none_closes(edges: &[Edge], crossings: &[Crossing]) -> bool
+/// an end of the one to an end of the other. So the pairs of edges that come close tell all that passes crossings, where no edge
+/// that led so would.
+pub fn none_closes(edges: &[Edge], crossings: &[Crossing]) -> bool
     requires { All (λ crossing. (crossing.one < length edges.now) × (crossing.other < length edges.now)) crossings.now }
     ensures { result ≡ true → NoneCloses edges.now crossings.now }
 {
@@ -106,6 +63,7 @@ pub fn stops_beside<A: Allocator + Copy>(
 ) -> Result<Vec<Stop, A>, AllocError>
     requires within { All (λ pair. (pair.0 < length edges.now) × (pair.1 < length edges.now)) pairs.now }
     requires in_order { AllPairs IsBefore stops.now }
+    requires passed { All (PassesItsEdge edges.now) stops.now }
     ensures { IfOk result (λ beside. GainsThese (IsOfSome (IsStopBeside edges.now stops.now) pairs.now) stops.now
         (stops.now ++ beside.items)) }
 {
@@ -127,6 +85,8 @@ fn push_stops_of_two<A: Allocator>(
 ) -> Result<(), AllocError>
     requires within { (pair.0 < length edges.now) × (pair.1 < length edges.now) }
     requires starts { AreStarts (length edges.now) stops.now starts.now }
+    requires in_order { AllPairs IsBefore stops.now }
+    requires passed { All (PassesItsEdge edges.now) stops.now }
     ensures { OnOk result (GainsThese (IsStopBeside edges.now stops.now pair) (stops.now ++ beside.old.items)
         (stops.now ++ beside.new.items)) }
 {
@@ -140,6 +100,9 @@ fn push_stops_of_two<A: Allocator>(
 }
 
 // Appends the stops of the edge, which is at this place, at those of the other one, but for such as are among its own.
+//
+// Seen from the edge's line, turned so that the other one rises over it, what lies far below stands before all that is passed, and
+// what lies far above behind it.
 fn push_stops_passed<A: Allocator>(
     place: usize,
     edge: Edge,
@@ -148,14 +111,69 @@ fn push_stops_passed<A: Allocator>(
     others: &[Stop],
     beside: &mut Vec<Stop, A>,
 ) -> Result<(), AllocError>
+    requires { StandAlong other others.now }
     ensures { OnOk result ((known : List Stop) → ((stop : Stop) → Contains own.now stop → Contains known stop)
         → GainsThese (IsOfSome (IsStopAtOther place edge other) others.now) (known ++ beside.old.items)
         (known ++ beside.new.items)) }
 {
-    for stop in others {
-        push_unless_known(place, edge, point_of(other, *stop), own, beside)?;
+    let line = line_under(edge, other);
+    for index in first_beside(line, other, others)..others.len() {
+        let point = point_of(other, others[index]);
+        if lies_far_above(line, point) {
+            return Ok(());
+        }
+        push_unless_known(place, edge, point, own, beside)?;
     }
     Ok(())
+}
+
+// The edge, or the edge from its end to its start, over which the other one rises.
+fn line_under(edge: Edge, other: Edge) -> Edge
+    ensures rises { RisesOver result other }
+    ensures is { (result ≡ edge) ⊎ (result ≡ reversed edge) }
+{
+    if height_over(edge, end_of(other)) < height_over(edge, start_of(other)) {
+        return reverse(edge);
+    }
+    edge
+}
+
+// A place among the stops of the other edge, which rises over the line, before which the line's own edge passes none: the first one
+// that doesn't lie far below, mostly.
+fn first_beside(line: Edge, other: Edge, others: &[Stop]) -> usize
+    requires along { StandAlong other others.now }
+    requires rises { RisesOver line other }
+    ensures within { result ≤ length others.now }
+    ensures before { NonePassed line other 0 result others.now }
+{
+    let mut low = 0;
+    let mut high = others.len();
+    // None is passed that stands before `low`, and from `high` on none lay far below where that was looked at.
+    while low < high {
+        let middle = low + (high - low) / 2;
+        if lies_far_below(line, point_of(other, others[middle])) {
+            low = middle + 1;
+        } else {
+            high = middle;
+        }
+    }
+    low
+}
+
+fn lies_far_below(line: Edge, point: Point) -> bool
+    ensures { result ≡ true → LiesFarBelow line point }
+{
+    let height = height_over(line, point);
+    let margin = margin_of(line);
+    height + margin + margin < 0
+}
+
+fn lies_far_above(line: Edge, point: Point) -> bool
+    ensures { result ≡ true → LiesFarAbove line point }
+{
+    let height = height_over(line, point);
+    let margin = margin_of(line);
+    margin + margin < height
 }
 
 // Appends the stop of the edge, which is at this place, at the point, if it passes that between its ends, unless it is among its

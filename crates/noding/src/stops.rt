@@ -11,7 +11,7 @@ ghost use Rattle.noding.specs.Sections.{IsStopIn};
 ghost use Rattle.noding.specs.declared.stops.Stop.{Stop};
 ghost use Rattle.noding.specs.Stops.{AreStops, IsBefore, IsStopAlong, IsStopAmong, IsStopAt, IsStopAtCrossing, IsStopAtEnd, IsOfCrossing, IsStopCrossed, IsStopOfBoth, IsStopOfPair, IsStopThere, IsStopUpto, PassedByBoth, point_of, stop_of, reflected};
 
-use crate::beside::{are_told_by_pairs, stops_beside};
+use crate::beside::{none_closes, stops_beside};
 use crate::close::close_pairs;
 use crate::columns::crossings::crossings_by_columns;
 use crate::columns::passing::pairs_passed_by_columns;
@@ -99,7 +99,7 @@ pub(crate) fn stops_of_pairs<A: Allocator + Copy>(
 {
     let mut stops = Vec::new(alloc);
     push_stops_at_ends(edges, pairs, &mut stops)?;
-    if are_asked_by_pairs(alloc, edges, pairs, crossings)? {
+    if are_asked_by_pairs(edges, crossings) {
         return stops_by_pairs(edges, pairs, crossings, stops);
     }
     push_stops_at_crossings(edges, crossings, &mut stops)?;
@@ -109,20 +109,14 @@ pub(crate) fn stops_of_pairs<A: Allocator + Copy>(
 
 // Whether the stops at crossings are sought by the pairs that come close. Of few edges, and of such as run along the axes, they are
 // sooner found otherwise.
-fn are_asked_by_pairs<A: Allocator>(
-    alloc: A,
-    edges: &[Edge],
-    pairs: &[(usize, usize)],
-    crossings: &[Crossing],
-) -> Result<bool, AllocError>
-    requires within { All (λ pair. (pair.0 < length edges.now) × (pair.1 < length edges.now)) pairs.now }
-    requires crossings { All (λ crossing. (crossing.one < length edges.now) × (crossing.other < length edges.now)) crossings.now }
-    ensures { IfOk result (λ are_told. are_told ≡ true → NoneCloses edges.now crossings.now) }
+fn are_asked_by_pairs(edges: &[Edge], crossings: &[Crossing]) -> bool
+    requires { All (λ crossing. (crossing.one < length edges.now) × (crossing.other < length edges.now)) crossings.now }
+    ensures { result ≡ true → NoneCloses edges.now crossings.now }
 {
     if edges.len().saturating_mul(crossings.len()) <= FEW_TESTS || run_along_axes(edges) {
-        return Ok(false);
+        return false;
     }
-    are_told_by_pairs(alloc, edges, pairs, crossings)
+    none_closes(edges, crossings)
 }
 
 // The stops of all edges, where these are those at ends of others: those of two edges where they cross, and then those of edges at

@@ -65,16 +65,16 @@ module _ (stops : List Stop) (like start end : ℕ) (first : Split like start st
   abbrev run : List Stop
   run = between start end stops
 
-  run-size : length run ≡ end - start
+  pub run-size : length run ≡ end - start
   run-size = length-between start end stops splits-rising last.inside
 
-  run-at : (k : ℕ) (d : Stop) → k < length run → (get_or run k d ≡ get_or stops (start + k) d) × (start + k < end)
+  pub run-at : (k : ℕ) (d : Stop) → k < length run → (get_or run k d ≡ get_or stops (start + k) d) × (start + k < end)
   run-at k d within =
       let size = run-size in
       let upto : start + k < end = omega (arith, within, size) in
       (between-at start end k stops d upto last.inside, upto)
 
-  run-place : (k : ℕ) (d : Stop) → start ≤ k → k < end → (get_or stops k d).place ≡ like
+  pub run-place : (k : ℕ) (d : Stop) → start ≤ k → k < end → (get_or stops k d).place ≡ like
   run-place k d from upto =
       let inside = last.inside in
       let most = last.before k d upto in

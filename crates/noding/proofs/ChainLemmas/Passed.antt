@@ -1,9 +1,9 @@
 -- The stops of edges at crossings of two others, told by the pairs that come close.
-use Rattle.std.proofs.Common.{◌≡◌, ◌≢◌, ◌⊎◌, ◌↔◌, inl, inr, ℕ, ◌+◌, ℤ, List, [], ◌∷◌, ◌++◌, Some, refl, sym, ap, ◌∙◌, subst, ⊎_elim, append_assoc, arith}
-use Rattle.std.specs.List.{AllPairs, Contains, slice_get}
+use Rattle.std.proofs.Common.{◌≡◌, ◌≢◌, ◌⊎◌, ◌↔◌, inl, inr, ℕ, ◌+◌, ◌<◌, ◌≤◌, ℤ, List, [], ◌∷◌, ◌++◌, Some, get_or, length, take, refl, sym, ap, ◌∙◌, subst, subst₂, ⊎_elim, append_assoc, arith}
+use Rattle.std.specs.List.{All, AllPairs, Contains, slice_get}
 use Rattle.std.proofs.lemmas.Bool.{cases_eq, cases_lt}
-use Rattle.std.proofs.lemmas.List.{append-nil}
-use Rattle.std.proofs.lemmas.List.Elements.{All-contains}
+use Rattle.std.proofs.lemmas.List.{append-nil, get_or-take, get_or_default, length-take-le}
+use Rattle.std.proofs.lemmas.List.Elements.{All-contains, Contains-get_or}
 use Rattle.std.proofs.lemmas.Option.{same_Some}
 use Rattle.plane.specs.declared.edge.Edge.{Edge}
 use Rattle.plane.specs.declared.point.Point.{Point}
@@ -12,8 +12,8 @@ use Rattle.plane.specs.Gains.{GainsThese, HaveSame, IsOfSome}
 use Rattle.plane.specs.Pairs.Pairs.{ArePairs}
 use Rattle.plane.proofs.GainsLemmas.{gains-join, gains-only, gains-same, held-at, place-of}
 use Rattle.plane.proofs.PointLemmas.{whole_point}
-use Rattle.noding.specs.Beside.{ClosesAt, IsFrom, IsStopAtOther, IsStopBeside, IsStopOver, IsUnclosed, NoneCloses}
-use Rattle.noding.specs.Chains.{IsEnd, IsHot}
+use Rattle.noding.specs.Beside.{ClosesAt, IsFrom, IsStopAtOther, IsStopBeside, IsStopOver, IsUnclosed, LiesFarAbove, LiesFarBelow, NoneCloses, NonePassed, PassesItsEdge, RisesOver, StandAlong}
+use Rattle.noding.specs.Chains.{IsEnd, IsHot, Passes, Upto}
 use Rattle.noding.specs.Close.{ComeClose, PassesInside, ShareEnd}
 use Rattle.noding.specs.Crossings.{AreCrossed, CrossInside, IsCrossingOf}
 use Rattle.noding.specs.Offsets.{between}
@@ -21,13 +21,14 @@ use Rattle.noding.specs.Stops.{AreStops, IsBefore, IsStopAtCrossing, IsStopOfPai
 use Rattle.noding.specs.declared.crossings.Crossing.{Crossing}
 use Rattle.noding.specs.declared.stops.Stop.{Stop}
 use Rattle.noding.proofs.ChainLemmas.Close.{ComeClose-exchanged, shared, shared-from}
-use Rattle.noding.proofs.ChainLemmas.Copies.{in_run, of_run}
+use Rattle.noding.proofs.ChainLemmas.Copies.{in_run, of_run, run-at, run-place, run-size}
 use Rattle.noding.proofs.ChainLemmas.Crossed.{passes-first, passes-second}
 use Rattle.noding.proofs.ChainLemmas.Crossings.{CrossAt-end, crossed-at, crossed-pair, hot_cases, pair-crossed}
 use Rattle.noding.proofs.ChainLemmas.Ends.{end_or_not}
-use Rattle.noding.proofs.ChainLemmas.Stops.{AreStops-told, IsStop, IsStop-along, end-stop, end_told, point-of_stop}
+use Rattle.noding.proofs.ChainLemmas.Stops.{AreStops-told, IsStop, IsStop-along, end-stop, end_told, point-of_stop, upto-before}
 use Rattle.noding.proofs.SnapLemmas.Apart.{near-passed}
 use Rattle.noding.proofs.SnapLemmas.Reversed.{Passes-reversed}
+use Rattle.noding.proofs.SnapLemmas.Rising.{not-above, not-before, not-behind, not-below}
 
 -- ---- what is gained
 
@@ -67,6 +68,89 @@ module _ (edges : List Edge) (stops : List Stop) (pair : ℕ × ℕ) (one other 
   gains-beside before now after gains more =
       gains-same (λ stop. IsOfSome (IsStopAtOther pair.0 one other) (between other_start other_end stops) stop ⊎ IsOfSome (IsStopAtOther pair.1 other one) (between start end stops) stop) (IsStopBeside edges stops pair) before after to_beside from_beside
       (gains-join (IsOfSome (IsStopAtOther pair.0 one other) (between other_start other_end stops)) (IsOfSome (IsStopAtOther pair.1 other one) (between start end stops)) before now after gains more)
+
+-- ---- what is passed along an edge
+
+-- the run of an edge's stops stands along it
+pub along-run : (edges : List Edge) (stops : List Stop) (place start end : ℕ) (edge : Edge) → slice_get edges place ≡ Some edge → Split place start stops → Split (place + 1) end stops → AllPairs IsBefore stops → All (PassesItsEdge edges) stops
+    → StandAlong edge (between start end stops)
+along-run edges stops place start end edge stands first last in_order passed = record {
+  in_order = λ i j d below within.
+      let size = run-size stops place start end first last in
+      let (one_at, one_upto) = run-at stops place start end first last i d (omega (arith, below, within)) in
+      let (other_at, other_upto) = run-at stops place start end first last j d within in
+      let inside = last.inside in
+      let one_place = run-place stops place start end first last (start + i) d (omega arith) one_upto in
+      let other_place = run-place stops place start end first last (start + j) d (omega arith) other_upto in
+      subst₂ (λ (one other : Stop). Upto edge (point_of edge one).x (point_of edge one).y (point_of edge other).x (point_of edge other).y) (sym one_at) (sym other_at)
+      (upto-before edge (get_or stops (start + i) d) (get_or stops (start + j) d) (one_place ∙ sym other_place) (in_order (start + i) (start + j) d (omega (arith, below)) (omega (arith, other_upto, inside)))
+      (passed (start + i) d (omega (arith, one_upto, inside)) edge (ap (slice_get edges) one_place ∙ stands)) (passed (start + j) d (omega (arith, other_upto, inside)) edge (ap (slice_get edges) other_place ∙ stands)));
+  passed = λ i d within.
+      let (at, upto) = run-at stops place start end first last i d within in
+      let inside = last.inside in
+      let here = run-place stops place start end first last (start + i) d (omega arith) upto in
+      subst (λ (stop : Stop). Passes edge (point_of edge stop).x (point_of edge stop).y) (sym at) (passed (start + i) d (omega (arith, upto, inside)) edge (ap (slice_get edges) here ∙ stands));
+}
+
+module _ (line other : Edge) (others : List Stop) (along : StandAlong other others) (rises : RisesOver line other) where
+  -- what stands before one that lies far below the line isn't passed, nor is that one
+  pub none-before : (l : ℕ) (e : Stop) → l < length others → LiesFarBelow line (point_of other (get_or others l e)) → NonePassed line other 0 (l + 1) others
+  none-before l e within below k d from upto =
+      let last : (get_or others l e) ≡ get_or others l d = get_or_default others l e d within in
+      let there = subst (λ (stop : Stop). LiesFarBelow line (point_of other stop)) last below in
+      elim (cases_lt k l) [
+        | inl before ↦ not-before line other rises (point_of other (get_or others k d)).x (point_of other (get_or others k d)).y (point_of other (get_or others l d)).x (point_of other (get_or others l d)).y
+            (along.passed k d (omega (arith, before, within))) (along.passed l d within) (along.in_order k l d before within) there
+        | inr behind ↦
+            let at : l ≡ k = omega (arith, upto, behind) in
+            not-below line (point_of other (get_or others k d)).x (point_of other (get_or others k d)).y (subst (λ (n : ℕ). LiesFarBelow line (point_of other (get_or others n d))) at there)
+      ]
+
+  -- what stands behind one that lies far above it isn't either
+  pub none-behind : (k : ℕ) (e : Stop) → k < length others → LiesFarAbove line (point_of other (get_or others k e)) → NonePassed line other k (length others) others
+  none-behind k e within above l d from upto =
+      let first : (get_or others k e) ≡ get_or others k d = get_or_default others k e d within in
+      let there = subst (λ (stop : Stop). LiesFarAbove line (point_of other stop)) first above in
+      elim (cases_lt k l) [
+        | inl behind ↦ not-behind line other rises (point_of other (get_or others k d)).x (point_of other (get_or others k d)).y (point_of other (get_or others l d)).x (point_of other (get_or others l d)).y
+            (along.passed k d within) (along.passed l d upto) (along.in_order k l d behind upto) there
+        | inr before ↦
+            let at : k ≡ l = omega (arith, from, before) in
+            not-above line (point_of other (get_or others l d)).x (point_of other (get_or others l d)).y (subst (λ (n : ℕ). LiesFarAbove line (point_of other (get_or others n d))) at there)
+      ]
+
+-- what a line's edge doesn't pass is no stop of it
+module _ (place : ℕ) (edge line other : Edge) (is : (line ≡ edge) ⊎ (line ≡ reversed edge)) where
+  passed-line : (x y : ℤ) → Passes edge x y → Passes line x y
+  passed-line x y passes = ⊎_elim (λ same. subst (λ (e : Edge). Passes e x y) (sym same) passes) (λ same. subst (λ (e : Edge). Passes e x y) (sym same) (Passes-reversed edge x y passes)) is
+
+  pub no-stop : (others : List Stop) (start end k : ℕ) (d : Stop) → NonePassed line other start end others → start ≤ k → k < end → (stop : Stop) → ¬ (IsStopAtOther place edge other (get_or others k d) stop)
+  no-stop others start end k d none from upto stop at = none k d from upto (passed-line _ _ at.0.0)
+
+-- items of which none stands for anything, at the front or behind the others
+module _ {X Y : Type 0} (Is : X → Y → Type 0) (items : List X) (k : ℕ) (long : k ≤ length items) where
+  size : length (take k items) ≡ k
+  size = length-take-le k items long
+
+  pub none-first : ((j : ℕ) (d : X) → j < k → (y : Y) → ¬ (Is (get_or items j d) y)) → (y : Y) → ¬ (IsOfSome Is (take k items) y)
+  none-first none y (x, (j, within, at), is) =
+      let upto : j < k = omega (arith, within, size) in
+      none j x upto y (subst (λ (z : X). Is z y) (sym at ∙ get_or-take k items j x upto) is)
+
+  pub gains-rest : (before after : List Y) → ((j : ℕ) (d : X) → k ≤ j → j < length items → (y : Y) → ¬ (Is (get_or items j d) y)) → GainsThese (IsOfSome Is (take k items)) before after → GainsThese (IsOfSome Is items) before after
+  gains-rest before after none = gains-same (IsOfSome Is (take k items)) (IsOfSome Is items) before after to from
+    where
+      to : (y : Y) → IsOfSome Is (take k items) y → IsOfSome Is items y
+      to y (x, (j, within, at), is) =
+          let upto : j < k = omega (arith, within, size) in
+          (x, (j, omega (arith, upto, long), sym (get_or-take k items j x upto) ∙ at), is)
+
+      from : (y : Y) → IsOfSome Is items y → IsOfSome Is (take k items) y
+      from y (x, (j, within, at), is) =
+          elim (cases_lt j k) [
+            | inl upto ↦ (x, (j, omega (arith, upto, size), get_or-take k items j x upto ∙ at), is)
+            | inr behind ↦ absurd (none j x behind within y (subst (λ (z : X). Is z y) (sym at) is))
+          ]
 
 -- ---- edges that share ends with both of two that cross
 
@@ -136,6 +220,13 @@ module _ (edges : List Edge) (pairs : List (ℕ × ℕ)) (crossings : List Cross
       (λ same. IsStop-along edges crossing.other at.other crossing.point.x crossing.point.y stop at.second hot (passes-second at.one at.other crossing.point cross, same))
       at.at.1)
       ((told stop).0 held)
+
+  -- so each is passed by its edge
+  pub all-passed : All (PassesItsEdge edges) stops
+  all-passed k d within edge stands =
+      let stop = first_stop (get_or stops k d) (Contains-get_or stops k d within) in
+      let edge_is : stop.edge ≡ edge = same_Some _ _ (sym stop.stands ∙ stands) in
+      subst (λ (e : Edge). Passes e (point_of e (get_or stops k d)).x (point_of e (get_or stops k d)).y) edge_is stop.inside.0
 
   -- and so are those at stops of others
   over_stop : (place i : ℕ) (edge other : Edge) (stop : Stop) → slice_get edges place ≡ Some edge → slice_get edges i ≡ Some other → IsStopOver stops place edge i other stop → IsStop edges stop

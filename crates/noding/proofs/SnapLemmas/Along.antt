@@ -14,7 +14,7 @@ use Rattle.plane.proofs.MeetLemmas.Identities.{Term, at_most, at_most_of, identi
 use Rattle.plane.proofs.SweepLineLemmas.Gaps.{product_above}
 
 -- the greater share of an edge that rises along the axis is at least as far
-ahead : (n m a b : ℕ) (p q start end : ℤ) → a * m ≤ b * n → start ≤ℤ end → p ≡ ((pos n *ℤ start) +ℤ (pos a *ℤ (end -ℤ start))) → q ≡ ((pos m *ℤ start) +ℤ (pos b *ℤ (end -ℤ start))) → (pos m *ℤ p) ≤ℤ (pos n *ℤ q)
+pub ahead : (n m a b : ℕ) (p q start end : ℤ) → a * m ≤ b * n → start ≤ℤ end → p ≡ ((pos n *ℤ start) +ℤ (pos a *ℤ (end -ℤ start))) → q ≡ ((pos m *ℤ start) +ℤ (pos b *ℤ (end -ℤ start))) → (pos m *ℤ p) ≤ℤ (pos n *ℤ q)
 ahead n m a b p q start end order way first second =
     let at : ℕ → ℕ → Term = λ k s. plus (times (n_of k) (number start)) (times (n_of s) (minus (number end) (number start))) in
     let wide = at_most_of (n_of 0) (times (minus (n_of (b * n)) (n_of (a * m))) (minus (number end) (number start))) (product_above (pos (b * n) -ℤ pos (a * m)) (end -ℤ start) (omega (arith, ints)) (omega (arith, ints))) in

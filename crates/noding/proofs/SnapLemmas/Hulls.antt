@@ -33,7 +33,7 @@ IsNearHull points point = IsWithinHull 1 points point
 -- ---- numbers
 
 -- a product is at most that of the absolute values
-product_upto : (u d : ℤ) (b : ℕ) → d ≤ℤ pos b → (pos 0 -ℤ d) ≤ℤ pos b → (u *ℤ d) ≤ℤ pos (unsigned_abs u * b)
+pub product_upto : (u d : ℤ) (b : ℕ) → d ≤ℤ pos b → (pos 0 -ℤ d) ≤ℤ pos b → (u *ℤ d) ≤ℤ pos (unsigned_abs u * b)
 product_upto (pos a) d b upto back = let most = scaled a d (pos b) upto in omega (arith, ints, most)
 product_upto (negsuc a) d b upto back =
     let most = scaled (suc a) (pos 0 -ℤ d) (pos b) back in
@@ -58,7 +58,7 @@ mean_upto b a u v x0 y0 x1 y1 most first second =
 abbrev between : ℕ → ℕ → ℤ → ℤ → Term
 between n m p q = times (n_of 2) (minus (times (n_of m) (number p)) (times (n_of n) (number q)))
 
-half_upto : (n m c d : ℕ) (u v x y other_x other_y most : ℤ) → 0 < m → (u *ℤ (pos 2 *ℤ ((pos m *ℤ x) -ℤ (pos n *ℤ other_x)))) ≤ℤ pos (c * (n * m)) → (v *ℤ (pos 2 *ℤ ((pos m *ℤ y) -ℤ (pos n *ℤ other_y)))) ≤ℤ pos (d * (n * m))
+pub half_upto : (n m c d : ℕ) (u v x y other_x other_y most : ℤ) → 0 < m → (u *ℤ (pos 2 *ℤ ((pos m *ℤ x) -ℤ (pos n *ℤ other_x)))) ≤ℤ pos (c * (n * m)) → (v *ℤ (pos 2 *ℤ ((pos m *ℤ y) -ℤ (pos n *ℤ other_y)))) ≤ℤ pos (d * (n * m))
     → (pos 2 *ℤ ((u *ℤ other_x) +ℤ (v *ℤ other_y))) ≤ℤ (pos m *ℤ most) → (pos 2 *ℤ ((u *ℤ x) +ℤ (v *ℤ y))) ≤ℤ (pos n *ℤ (most +ℤ pos (c + d)))
 half_upto n m c d u v x y other_x other_y most some near_x near_y upto =
     let along_x = at_most_of (times (number u) (between n m x other_x)) (n_of (c * (n * m))) near_x in

@@ -6,7 +6,7 @@ use Rattle.noding.specs.declared.stops.Stop.{Stop}
 use Rattle.noding.proofs.beside.push_stops_passed.Given as goal
 
 -- the stops at those so far
-abbrev pub invariant-loop-stop : goal.invariant-loop-stop
-invariant-loop-stop g l =
+abbrev pub invariant-loop-index : goal.invariant-loop-index
+invariant-loop-index g l =
     (known : List Stop) → ((stop : Stop) → Contains l.fn.own stop → Contains known stop)
-    → GainsThese (IsOfSome (IsStopAtOther l.fn.place l.fn.edge l.fn.other) (take l.stop-index l.others)) (known ++ l.fn.beside.items) (known ++ l.beside.items)
+    → GainsThese (IsOfSome (IsStopAtOther l.fn.place l.fn.edge l.fn.other) (take l.index l.fn.others)) (known ++ l.fn.beside.items) (known ++ l.beside.items)

@@ -1,12 +1,12 @@
 use Rattle.std.proofs.Common.{◌≡◌, ◌++◌, ◌∙◌, ◌⊎◌, ◌↔◌, [], inl, inr, ℕ, List, ap, arith, length, subst, sym, ⊎_elim}
 use Rattle.std.specs.Bool.{◌==◌}
-use Rattle.std.specs.List.{Contains}
+use Rattle.std.specs.List.{All, Contains}
 use Rattle.plane.specs.Gains.{GainsThese, HaveSame, IsOfSome}
-use Rattle.noding.specs.Beside.{IsStopBeside}
+use Rattle.noding.specs.Beside.{IsStopBeside, PassesItsEdge}
 use Rattle.noding.specs.Stops.{IsStopAtCrossing, IsStopOfPair}
 use Rattle.noding.specs.declared.stops.Stop.{Stop}
 use Rattle.noding.proofs.ChainLemmas.Crossings.{within-crossed}
-use Rattle.noding.proofs.ChainLemmas.Passed.{AreStops-beside, same-none}
+use Rattle.noding.proofs.ChainLemmas.Passed.{AreStops-beside, all-passed, same-none}
 use Rattle.noding.proofs.ChainLemmas.Spreading.{empty-told}
 use Rattle.noding.proofs.stops.stops_by_pairs.Goals as goal
 
@@ -19,6 +19,15 @@ gained Is Now ends all sorted told gains same stop = (
 
 pub push_stops_of_crossings-requires : goal.push_stops_of_crossings-requires
 push_stops_of_crossings-requires g c = within-crossed c.args.edges.now c.args.pairs.now c.args.crossings.now c.requires.crossed
+
+pub stops_beside-requires-clause-passed : goal.stops_beside-requires-clause-passed
+stops_beside-requires-clause-passed g c =
+    let edges = c.args.edges.now in
+    let pairs = c.args.pairs.now in
+    let crossings = c.args.crossings.now in
+    let sorted = c.sort_stops.new.stops.items in
+    let told = gained (IsOfSome (IsStopOfPair edges) pairs) (IsOfSome (IsStopAtCrossing edges) crossings) c.args.stops.items c.push_stops_of_crossings.new.stops.items sorted c.requires.ends c.in_ok-push_stops_of_crossings.ensures c.in_ok-sort_stops.ensures.same in
+    subst (All (PassesItsEdge edges)) (sym c.deref.ensures.value) (all-passed edges pairs crossings c.requires.close c.requires.crossed c.requires.none sorted told)
 
 pub returns-then-is_empty-clause-ok : goal.returns-then-is_empty-clause-ok
 returns-then-is_empty-clause-ok g c =

@@ -13,8 +13,8 @@ push_stops_at_crossings-requires-clause-each g c = each-crossed c.args.edges.now
 pub push_stops_at_crossings-requires-clause-within : goal.push_stops_at_crossings-requires-clause-within
 push_stops_at_crossings-requires-clause-within g c = within-crossed c.args.edges.now c.args.pairs.now c.args.crossings.now c.requires.crossed
 
-pub are_asked_by_pairs-requires-clause-crossings : goal.are_asked_by_pairs-requires-clause-crossings
-are_asked_by_pairs-requires-clause-crossings g c = within-crossed c.args.edges.now c.args.pairs.now c.args.crossings.now c.requires.crossed
+pub are_asked_by_pairs-requires : goal.are_asked_by_pairs-requires
+are_asked_by_pairs-requires g c = within-crossed c.args.edges.now c.args.pairs.now c.args.crossings.now c.requires.crossed
 
 pub stops_by_pairs-requires-clause-ends : goal.stops_by_pairs-requires-clause-ends
 stops_by_pairs-requires-clause-ends g c =
