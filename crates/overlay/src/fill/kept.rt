@@ -18,6 +18,7 @@ use super::few::append_by_comparing;
 use super::handed::{append_by_handing, are_few_looks};
 use super::pieces::Piece;
 use super::rules::Choice;
+use super::sampled::may_pay;
 use i_tree::Refusal;
 use i_tree::status::exp::StatusCollection;
 use plane::edge::Edge;
@@ -52,12 +53,13 @@ where
         append_by_comparing(pieces, choice, out)?;
         return Ok(());
     }
-    let ends = ends_in_order(*out.allocator(), pieces)?;
-    if are_few_looks(pieces, &ends) {
-        append_by_handing(pieces, &ends, choice, out)?;
-        return Ok(());
+    if may_pay(pieces) {
+        let ends = ends_in_order(*out.allocator(), pieces)?;
+        if are_few_looks(pieces, &ends) {
+            append_by_handing(pieces, &ends, choice, out)?;
+            return Ok(());
+        }
     }
-    drop(ends);
     append_by_status(status, pieces, choice, out)
 }
 

@@ -26,6 +26,7 @@ mod handed;
 mod kept;
 pub mod pieces;
 pub mod rules;
+mod sampled;
 mod verticals;
 
 /// Appends to `out` the edges that bound what the operation makes of the inside of the subject and that of the clip.
