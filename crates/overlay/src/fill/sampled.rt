@@ -8,9 +8,9 @@ use plane::point::Point;
 const SAMPLES: usize = 64;
 
 // Of these at most so many times the pieces that are live at once may end where none begins: with more there are too many looks.
-const MOST_STOPS: u64 = 4_096;
+const MOST_STOPS: u64 = 1_024;
 
-// With fewer pieces live at once, and most in columns, a status takes each beside the one before it, which is as quick.
+// With fewer pieces live at once, and many in columns, a status takes each beside the one before it, which is as quick.
 const FEW_IN_COLUMNS: u64 = 256;
 
 /// Whether it may be quicker than with a status: where most pieces end at a point at which others begin, or few are live at once.
@@ -24,7 +24,7 @@ pub fn may_pay(pieces: &[Piece]) -> bool {
         stops = stops.saturating_add(u64::from(stops_at(pieces, place)));
         shared = shared.saturating_add(usize::from(is_in_column(pieces, place)));
     }
-    let is_quick = shared > SAMPLES / 2 && live < FEW_IN_COLUMNS;
+    let is_quick = shared > SAMPLES / 4 && live < FEW_IN_COLUMNS;
     !is_quick && stops.saturating_mul(live) <= MOST_STOPS
 }
 
