@@ -288,7 +288,16 @@ def memory():
 
 
 PARTS = (
-    *(worked, rows_by_model, wrong_rules, crowds, partial(snaps.copies, "node", chains_of), many, memory),
+    *(
+        worked,
+        rows_by_model,
+        wrong_rules,
+        crowds,
+        partial(snaps.copies, "node", chains_of),
+        partial(snaps.pencils, "node", chains_of),
+        many,
+        memory,
+    ),
     *(partial(part, [PLAIN]) for part in (empty_texts, plain_lines, line_numbers, streams.each_mode)),
     *(partial(shapes, seed) for seed in range(TEXTS)),
     *(partial(by_chance, "node", chains_of, *kind[:4], seed) for kind in KINDS for seed in range(kind[4])),

@@ -1,11 +1,12 @@
 """The mode `snap`: worked examples, faulty lines, and edges by chance beside clipping with fractions."""
 
 from functools import partial
+from itertools import combinations
 from random import Random
 
 import refusals
 import streams
-from chains import are_apart, chains, closed_chains, own_chains
+from chains import are_apart, chains, closed_chains, ends, meeting, own_chains, passage, rounded
 from many import MANY, SEED
 from meetings import line_of, near_grid, numbers_by_chance
 from odd import read, texts_by_chance
@@ -476,6 +477,39 @@ def crowds():
             yield snapped(f"30 edges {where}, {turn}", lines(*map(line_of, edges)), edges)
 
 
+def pencil(random, middle):
+    """An edge from far to far that passes close by the middle."""
+    x, y = random.randint(-1_000, 1_000), random.randint(-1_000, 1_000)
+    there, here = random.randint(20, 2_000), -random.randint(20, 2_000)
+    ends = (middle[at % 2] + way * (here, there)[at // 2] + random.randint(-1, 1) for at, way in enumerate((x, y, x, y)))
+    return tuple(ends)
+
+
+def is_closed(edges):
+    """Whether some edge from an end of the one to an end of the other of two that cross would pass what they cross at, rounded."""
+    for one, other in combinations(edges, 2):
+        point = meeting(one, other)
+        if point and any(passage(start + end, rounded(point)) for start in ends(one) for end in ends(other)):
+            return True
+    return False
+
+
+def pencils(mode, chains_of, count=16):
+    """Cases of edges that pass close by one of three points: most of what two cross at is passed by others. Hardly one leads from an
+    end of one of two that cross to an end of the other, so that the pairs that come close tell all."""
+    random = Random(SEED)
+    closed = 0
+    for turn in range(count):
+        middles = [near(random, random.choice((3, 60_000))) for _ in range(3)]
+        edges = [pencil(random, middle) for middle in middles for _ in range(random.randint(8, 12))]
+        closed += is_closed(edges)
+        yield answered(
+            f"edges close by three points, {turn}", mode, lines(*map(line_of, edges)), lines(*map(reply, chains_of(edges)))
+        )
+    if closed > count // 2:
+        raise ValueError("snap: of edges close by three points most are closed")
+
+
 def round_of(ring):
     return [one + other for one, other in zip(ring, ring[1:] + ring[:1])]
 
@@ -526,7 +560,17 @@ def memory():
 
 
 PARTS = (
-    *(worked, rows_by_model, odd_texts, wrong_rules, crowds, partial(copies, "snap", chains_apart), many, memory),
+    *(
+        worked,
+        rows_by_model,
+        odd_texts,
+        wrong_rules,
+        crowds,
+        partial(copies, "snap", chains_apart),
+        partial(pencils, "snap", chains_apart),
+        many,
+        memory,
+    ),
     *(partial(part, [PLAIN]) for part in (empty_texts, plain_lines, line_numbers, streams.each_mode)),
     *(partial(by_chance, "snap", chains_apart, *kind[:4], seed) for kind in KINDS for seed in range(kind[4])),
 )
