@@ -486,7 +486,7 @@ def pencil(random, middle):
 
 
 def is_closed(edges):
-    """Whether some edge from an end of the one to an end of the other of two that cross would pass what they cross at, rounded."""
+    """Whether some edge from an end of the one to an end of the other of two that cross would pass what they round to."""
     for one, other in combinations(edges, 2):
         point = meeting(one, other)
         if point and any(passage(start + end, rounded(point)) for start in ends(one) for end in ends(other)):
@@ -495,8 +495,8 @@ def is_closed(edges):
 
 
 def pencils(mode, chains_of, count=16):
-    """Cases of edges that pass close by one of three points: most of what two cross at is passed by others. Hardly one leads from an
-    end of one of two that cross to an end of the other, so that the pairs that come close tell all."""
+    """Cases of edges that pass close by one of three points, so that others pass most of what two cross at. Hardly one leads from
+    an end of one of two that cross to an end of the other: so the pairs that come close tell all."""
     random = Random(SEED)
     closed = 0
     for turn in range(count):

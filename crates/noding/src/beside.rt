@@ -16,8 +16,8 @@ use plane::edge::{Edge, edge_between, end_of, height_over, margin_of, reverse, s
 use plane::point::Point;
 use std::alloc::{AllocError, Allocator};
 
-/// Whether no edge from an end of the one to an end of the other of two edges that cross passes their crossing. Of crossings at ends
-/// nothing is asked.
+/// Whether no edge from an end of the one to an end of the other of two edges that cross passes their crossing. Of crossings at
+/// ends nothing is asked.
 ///
 /// An edge that passes what two others cross at comes close to one of them, unless it shares an end with both: then it leads from
 /// an end of the one to an end of the other. So the pairs of edges that come close tell all that passes crossings, where no edge

@@ -1,4 +1,4 @@
-//! Whether it may pay to hand on what is below pieces, by some of them. What it says decides how long a fill takes, and nothing else.
+//! Whether it may pay to hand on what is below pieces, by some of them. It decides how long a fill takes, and nothing else.
 
 use super::pieces::Piece;
 use plane::edge::{Edge, end_of};
