@@ -495,8 +495,8 @@ def is_closed(edges):
 
 
 def pencils(mode, chains_of, count=16):
-    """Cases of edges that pass close by one of three points, so that others pass most of what two cross at. Hardly one leads from
-    an end of one of two that cross to an end of the other: so the pairs that come close tell all."""
+    """Cases of edges that pass close by one of three points, so that others pass most of what two cross at. Hardly one leads
+    from an end of one of two that cross to an end of the other: so the pairs that come close tell all."""
     random = Random(SEED)
     closed = 0
     for turn in range(count):
