@@ -1,0 +1,3 @@
+-- Definitions of graphs without circles.
+pub mod Circles
+pub mod Trees
