@@ -44,7 +44,7 @@ ring-ends (first ∷ others) edge held =
       | inr same ↦ subst (λ (q : Point). Contains (first ∷ others) q) same (Contains-here first others)
     ]
 
-rings-ends : (rings : List (List Point)) (edge : Edge) → Contains (flat_map ring_edges rings) edge
+pub rings-ends : (rings : List (List Point)) (edge : Edge) → Contains (flat_map ring_edges rings) edge
     → Contains (flat_map (λ ring. ring) rings) (start_of edge) × Contains (flat_map (λ ring. ring) rings) (end_of edge)
 rings-ends [] edge (k, within, is) = absurd (omega (arith, within))
 rings-ends (ring ∷ rings) edge held =
@@ -134,7 +134,7 @@ uncrossed-tiles (tile ∷ tiles) parts beside within one other x y held held_too
 -- ---- and a border around
 
 -- a side of a window lies in one beside it
-side-beside : (whole : Window) (edge : Edge) → HasPoints whole → Contains (ring_edges (turned_border whole)) edge → (box : Window) × EdgeWithin box edge × AreBeside box whole
+pub side-beside : (whole : Window) (edge : Edge) → HasPoints whole → Contains (ring_edges (turned_border whole)) edge → (box : Window) × EdgeWithin box edge × AreBeside box whole
 side-beside whole edge some (zero, _, is) =
     let tall = some.tall in
     let box : Window = record { left = whole.left; low = whole.low; right = whole.left; high = whole.high } in (

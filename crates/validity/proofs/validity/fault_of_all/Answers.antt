@@ -1,0 +1,28 @@
+use Rattle.std.proofs.Common.{List, ap, map, subst, sym}
+use Rattle.std.specs.List.{flat_map}
+use Rattle.plane.specs.declared.point.Point.{Point}
+use Rattle.overlay.specs.Contours.Rings.{ring_edges}
+use Rattle.overlay.specs.Overlay.{polygon_edges}
+use Rattle.overlay.specs.Polygons.{rings_of}
+use Rattle.overlay.proofs.Callers.{rings-joined}
+use Rattle.tiles.proofs.JoinWinds.{AreUncrossed}
+use Rattle.validity.specs.Given.{directed, polygons_of}
+use Rattle.validity.specs.Validity.{WindOnce, WindOtherwise}
+use Rattle.validity.proofs.Framed.{none-is, some-is}
+use Rattle.validity.proofs.Meetings.{touch-uncrossed}
+use Rattle.validity.proofs.validity.fault_of_all.Goals as goal
+
+pub first_otherwise-requires-clause-uncrossed : goal.first_otherwise-requires-clause-uncrossed
+first_otherwise-requires-clause-uncrossed g c =
+    let same = ap (λ (rings : List (List Point)). flat_map ring_edges rings) (rings-joined (rings_of (map directed (polygons_of c.args.set))) _ _ c.in_ok-all.ensures.ok) in
+    subst AreUncrossed (sym same) (touch-uncrossed (polygon_edges (map directed (polygons_of c.args.set))) c.requires.meet)
+
+pub returns-in_default-clause-ok : goal.returns-in_default-clause-ok
+returns-in_default-clause-ok g c =
+    let same = ap (λ (rings : List (List Point)). flat_map ring_edges rings) (rings-joined (rings_of (map directed (polygons_of c.args.set))) _ _ c.in_ok-all.ensures.ok) in
+    subst WindOnce same (none-is _ _ c.in_ok-point.field-0 c.in_default.is c.in_ok-point.ensures.ok)
+
+pub returns-clause-ok : goal.returns-clause-ok
+returns-clause-ok g c =
+    let same = ap (λ (rings : List (List Point)). flat_map ring_edges rings) (rings-joined (rings_of (map directed (polygons_of c.args.set))) _ _ c.in_ok-all.ensures.ok) in
+    subst WindOtherwise same (some-is _ _ c.in_ok-point.field-0 c.in-Some.point c.in-Some.is c.in_ok-point.ensures.ok)

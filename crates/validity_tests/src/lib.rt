@@ -1,0 +1,5 @@
+//! For tests alone: worked examples of the public calls of `validity`.
+#![tactic(auto)]
+
+#[cfg(test)]
+mod worked;
