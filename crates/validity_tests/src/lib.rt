@@ -1,5 +1,0 @@
-//! For tests alone: worked examples of the public calls of `validity`.
-#![tactic(auto)]
-
-#[cfg(test)]
-mod worked;
