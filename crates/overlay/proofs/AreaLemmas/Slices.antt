@@ -41,16 +41,16 @@ total-above : {X : Type 0} (f : X → ℤ) (xs : List X) (x : X) → Contains xs
 total-above f [] x (k, inside, is) all = absurd (omega (arith, inside))
 total-above f (y ∷ ys) x among all = more_above (f y) (total f ys) (All-head (λ x. pos 0 <ℤ f x) y ys all) (total-not_below f ys (All-tail (λ x. pos 0 <ℤ f x) y ys all))
 
-module _ (edges : List Edge) (closed : AreBalanced edges) (noded : AreNoded edges) (distinct : AreDistinct edges) (sloped : All (λ edge. edge.x0 ≢ edge.x1) edges) where
-  -- how far each edge goes, and a common multiple of all
-  abbrev width : Edge → ℕ
+module _ (edges : List Edge) (sloped : All (λ edge. edge.x0 ≢ edge.x1) edges) where
+  -- How far each edge goes, and a common multiple of all.
+  abbrev pub width : Edge → ℕ
   width edge = up (run (rightwards edge))
 
-  abbrev multiple : ℕ
+  abbrev pub multiple : ℕ
   multiple = product width edges
 
-  -- by what an edge's width is multiplied to it
-  abbrev share : Edge → ℤ
+  -- By what an edge's width is multiplied to it.
+  abbrev pub share : Edge → ℤ
   share edge = pos (multiple / width edge)
 
   goes : (edge : Edge) → Contains edges edge → pos 0 <ℤ run (rightwards edge)
@@ -61,10 +61,10 @@ module _ (edges : List Edge) (closed : AreBalanced edges) (noded : AreNoded edge
   width_is : (edge : Edge) → Contains edges edge → pos (width edge) ≡ run (rightwards edge)
   width_is edge among = let some = goes edge among in up_is (run (rightwards edge)) (omega (arith, ints, some))
 
-  wide : All (λ edge. 0 < width edge) edges
+  pub wide : All (λ edge. 0 < width edge) edges
   wide = All-among (λ edge. 0 < width edge) edges (λ edge among. let some = goes edge among in let is = width_is edge among in omega (arith, ints, some, is))
 
-  shares : (edge : Edge) → Contains edges edge → (share edge *ℤ run (rightwards edge)) ≡ pos multiple
+  pub shares : (edge : Edge) → Contains edges edge → (share edge *ℤ run (rightwards edge)) ≡ pos multiple
   shares edge among =
       ap (λ z. share edge *ℤ z) (sym (width_is edge among))
       ∙ product_of (multiple / width edge) (width edge)
@@ -77,19 +77,19 @@ module _ (edges : List Edge) (closed : AreBalanced edges) (noded : AreNoded edge
   abbrev most : ℕ
   most = reach (λ (edge : Edge). (rightwards edge).x0) edges + reach (λ (edge : Edge). (rightwards edge).x1) edges
 
-  abbrev lowest : ℤ
+  abbrev pub lowest : ℤ
   lowest = pos 0 -ℤ pos most
 
-  abbrev many : ℕ
+  abbrev pub many : ℕ
   many = most + most
 
-  from : (edge : Edge) → Contains edges edge → lowest ≤ℤ (rightwards edge).x0
-  from edge among = let near = in-reach (λ (e : Edge). (rightwards e).x0) edges edge among in let h = near.from in omega (arith, ints, h)
+  pub from_lowest : (edge : Edge) → Contains edges edge → lowest ≤ℤ (rightwards edge).x0
+  from_lowest edge among = let near = in-reach (λ (e : Edge). (rightwards e).x0) edges edge among in let h = near.from in omega (arith, ints, h)
 
-  upto : (edge : Edge) → Contains edges edge → (rightwards edge).x1 ≤ℤ (lowest +ℤ pos many)
-  upto edge among = let near = in-reach (λ (e : Edge). (rightwards e).x1) edges edge among in let h = near.upto in omega (arith, ints, h)
+  pub upto_last : (edge : Edge) → Contains edges edge → (rightwards edge).x1 ≤ℤ (lowest +ℤ pos many)
+  upto_last edge among = let near = in-reach (λ (e : Edge). (rightwards e).x1) edges edge among in let h = near.upto in omega (arith, ints, h)
 
-  module _ (s : ℤ) (turns : All (Alternates s edges) edges) (first : Edge) (one_of : Contains edges first) where
+  module _ (closed : AreBalanced edges) (noded : AreNoded edges) (distinct : AreDistinct edges) (s : ℤ) (turns : All (Alternates s edges) edges) (first : Edge) (one_of : Contains edges first) where
     -- what an edge counts on the stretch from x on
     abbrev part : ℤ → Edge → ℤ
     part x edge = cond (is_over x (rightwards edge)) (slice (s *ℤ weight edge) (share edge) (rightwards edge) x) (pos 0)
@@ -103,7 +103,7 @@ module _ (edges : List Edge) (closed : AreBalanced edges) (noded : AreNoded edge
         let r = rightwards edge in
         let slanted = All-contains (λ (e : Edge). e.x0 ≢ e.x1) edges edge sloped among in
         let same : (pos multiple *ℤ ((s *ℤ weight edge) *ℤ trapezoid r)) ≡ whole edge = ap (λ z. pos multiple *ℤ z) (grouped s (weight edge) (trapezoid r) ∙ ap (λ z. s *ℤ z) (trapezoid-weighed edge slanted)) in
-        slices r (rightwards-onwards edge slanted) (s *ℤ weight edge) (share edge) (pos multiple) (shares edge among) lowest many (from edge among) (upto edge among)
+        slices r (rightwards-onwards edge slanted) (s *ℤ weight edge) (share edge) (pos multiple) (shares edge among) lowest many (from_lowest edge among) (upto_last edge among)
         ∙ ap (λ z. (z +ℤ z) +ℤ run r) same
       where
         grouped : (a b c : ℤ) → ((a *ℤ b) *ℤ c) ≡ (a *ℤ (b *ℤ c))
@@ -183,7 +183,7 @@ area-above edges closed noded distinct sloped first among left =
     let turns : All (Alternates (pos 1) edges) edges = All-among (Alternates (pos 1) edges) edges
     (λ edge inside. one_alternates edges edge (All-contains (λ (e : Edge). e.x0 ≢ e.x1) edges edge sloped inside) (All-contains (λ e. on_left edges e ≡ pos 1) edges edge left inside)) in
     once_below (total trapezoid edges) (total swept edges) (total-swept edges (balanced edges closed))
-    (trapezoids-below edges (balanced edges closed) noded distinct sloped (pos 1) turns first among)
+    (trapezoids-below edges sloped (balanced edges closed) noded distinct (pos 1) turns first among)
 
 -- And one below 0 where there is nothing on the left of each.
 pub area-below : (edges : List Edge) → IsClosed edges → AreNoded edges → AreDistinct edges → All (λ edge. edge.x0 ≢ edge.x1) edges → (first : Edge) → Contains edges first
@@ -192,4 +192,4 @@ area-below edges closed noded distinct sloped first among left =
     let turns : All (Alternates (negsuc 0) edges) edges = All-among (Alternates (negsuc 0) edges) edges
     (λ edge inside. none_alternates edges edge (All-contains (λ (e : Edge). e.x0 ≢ e.x1) edges edge sloped inside) (All-contains (λ e. on_left edges e ≡ pos 0) edges edge left inside)) in
     less_below (total trapezoid edges) (total swept edges) (total-swept edges (balanced edges closed))
-    (trapezoids-below edges (balanced edges closed) noded distinct sloped (negsuc 0) turns first among)
+    (trapezoids-below edges sloped (balanced edges closed) noded distinct (negsuc 0) turns first among)

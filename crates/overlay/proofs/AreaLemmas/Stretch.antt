@@ -36,7 +36,7 @@ use Rattle.noding.proofs.SnapLemmas.Numbers.{n_of}
 -- ---- sums of multiples
 
 -- products by 0, and of sums
-times_none : (s : ℤ) → (s *ℤ pos 0) ≡ pos 0
+pub times_none : (s : ℤ) → (s *ℤ pos 0) ≡ pos 0
 times_none s = identity (times (number s) (n_of 0)) (n_of 0) (omega arith)
 
 times_sum : (s a b : ℤ) → (s *ℤ (a +ℤ b)) ≡ ((s *ℤ a) +ℤ (s *ℤ b))
