@@ -1,4 +1,5 @@
 -- Lemmas of the areas of rings, and which way these run.
+pub mod Alike
 pub mod Alternating
 pub mod Around
 pub mod Beneath
