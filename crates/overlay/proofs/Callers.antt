@@ -23,6 +23,12 @@ pub use Rattle.overlay.proofs.AreaLemmas.Rings.{boundary-signed}
 -- It winds once around each point or not at all, to the left where it runs counterclockwise, else to the right.
 pub use Rattle.overlay.proofs.WindsLemmas.Once.{winds-directed}
 pub use Rattle.overlay.proofs.WindsLemmas.Rings.{boundary-once}
+-- Closed edges that wind alike around every point bound the same area, whichever edges they are. So the areas of polygons add up to
+-- that of the region around which they wind: to what any closed edges sweep that do so. Where no edge is moved, the areas of union
+-- and intersection add up to those of subject and clip, which each wind once around a point or not at all.
+pub use Rattle.overlay.proofs.AreaLemmas.Alike.{same-area}
+pub use Rattle.overlay.proofs.FillLemmas.Balance.{AreBalanced, balanced}
+pub use Rattle.overlay.proofs.WindsLemmas.Regions.{area-of-region, areas-add, areas-of-both, swept-polygons}
 -- Around a point nothing changes from one edge to the next: what some of the edges wind just clockwise of one they wind just
 -- counterclockwise of the next. Where the edges wind once around a point or not at all, those that end there and those that start
 -- there take turns. Each has one next edge, which is that of no other one; and along that edge a walk goes on, also

@@ -15,6 +15,7 @@ pub mod OwnPolygon
 pub mod Paired
 pub mod Pairs
 pub mod Polygons
+pub mod Regions
 pub mod RingHomes
 pub mod Rings
 pub mod Told
