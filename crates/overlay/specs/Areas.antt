@@ -14,7 +14,8 @@ swept edge = cross edge.x0 edge.y0 edge.x1 edge.y1
 abbrev pub twice_area : List Point → ℤ
 twice_area ring = total swept (ring_edges ring)
 
--- Twice the area of a polygon, or of some rings: that of outer rings less that of holes.
+-- Twice the area of a polygon, or of some rings: that of outer rings less that of holes. Added up over polygons it is that of the
+-- region around which they wind, whichever closed edges tell it: they sweep as much (`same-area`, a lemma for callers).
 abbrev pub twice_area_of : List (List Point) → ℤ
 twice_area_of [] = pos 0
 twice_area_of (ring ∷ rings) = twice_area ring +ℤ twice_area_of rings
