@@ -25,7 +25,8 @@ pub use Rattle.overlay.proofs.WindsLemmas.Once.{winds-directed}
 pub use Rattle.overlay.proofs.WindsLemmas.Rings.{boundary-once}
 -- Closed edges that wind alike around every point bound the same area, whichever edges they are. So the areas of polygons add up to
 -- that of the region around which they wind: to what any closed edges sweep that do so. Where no edge is moved, the areas of union
--- and intersection add up to those of subject and clip, which each wind once around a point or not at all.
+-- and intersection add up to those of subject and clip, which each wind once around a point or not at all, by any rule but that of
+-- numbers below 0.
 pub use Rattle.overlay.proofs.AreaLemmas.Alike.{same-area}
 pub use Rattle.overlay.proofs.FillLemmas.Balance.{AreBalanced, balanced}
 pub use Rattle.overlay.proofs.WindsLemmas.Regions.{area-of-region, areas-add, areas-of-both, swept-polygons}

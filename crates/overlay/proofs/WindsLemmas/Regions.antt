@@ -88,7 +88,7 @@ counts_itself rule z usual (inl none) = ap (λ w. count (is_inside rule w)) none
 counts_itself rule z usual (inr once) = ap (λ w. count (is_inside rule w)) once ∙ counts_once rule usual ∙ sym once
 
 -- Where no edge is moved, and subject and clip each wind once around a point or not at all, the areas of their union and of their
--- intersection add up to theirs.
+-- intersection add up to theirs, by any rule but that of numbers below 0.
 pub areas-add : (rule : FillRule) (subject clip : List Edge) (joined common : List (List (List Point))) → rule ≢ Negative → IsOverlay rule Union subject clip joined → IsOverlay rule Intersection subject clip common
     → ((point : RationalPoint) → All (IsExactAt (subject ++ clip) point) (subject ++ clip)) → IsClosed subject → IsClosed clip
     → ((point : RationalPoint) → (winding subject point ≡ pos 0) ⊎ (winding subject point ≡ pos 1)) → ((point : RationalPoint) → (winding clip point ≡ pos 0) ⊎ (winding clip point ≡ pos 1))
