@@ -55,10 +55,13 @@ fn closes_from(from: Point, edge: Edge, point: Point) -> bool
 }
 
 /// The stops of the edges at each of these pairs at the stops of one another, but for such as are among these.
+///
+/// Where the pairs' crossings are told, in their order, the stops of two edges that cross are sought from their crossing on.
 pub fn stops_beside<A: Allocator + Copy>(
     alloc: A,
     edges: &[Edge],
     pairs: &[(usize, usize)],
+    crossings: &[Crossing],
     stops: &[Stop],
 ) -> Result<Vec<Stop, A>, AllocError>
     requires within { All (λ pair. (pair.0 < length edges.now) × (pair.1 < length edges.now)) pairs.now }
@@ -69,16 +72,32 @@ pub fn stops_beside<A: Allocator + Copy>(
 {
     let starts = starts_of(alloc, edges.len(), stops)?;
     let mut beside = Vec::new(alloc);
+    let mut next = 0;
     for pair in pairs {
-        push_stops_of_two(edges, *pair, stops, &starts, &mut beside)?;
+        let at = crossing_at(crossings, *pair, &mut next);
+        push_stops_of_two(edges, *pair, at, stops, &starts, &mut beside)?;
     }
     Ok(beside)
 }
 
-// Appends those of the edges at the pair.
+// Where the edges at the pair cross, if the next of the crossings is theirs. Then the one behind it is the next.
+fn crossing_at(crossings: &[Crossing], pair: (usize, usize), next: &mut usize) -> Option<Point> {
+    if crossings.len() <= *next {
+        return None;
+    }
+    let crossing = crossings[*next];
+    if crossing.one != pair.0 || crossing.other != pair.1 {
+        return None;
+    }
+    *next += 1;
+    Some(crossing.point)
+}
+
+// Appends those of the edges at the pair, which cross at the point, if there is one.
 fn push_stops_of_two<A: Allocator>(
     edges: &[Edge],
     pair: (usize, usize),
+    at: Option<Point>,
     stops: &[Stop],
     starts: &[usize],
     beside: &mut Vec<Stop, A>,
@@ -94,12 +113,35 @@ fn push_stops_of_two<A: Allocator>(
     let of_other = stops_at(stops, starts[pair.1], starts[pair.1 + 1]);
     let one = edges[pair.0];
     let other = edges[pair.1];
-    push_stops_passed(pair.0, one, other, of_one, of_other, beside)?;
-    push_stops_passed(pair.1, other, one, of_other, of_one, beside)?;
+    let in_one = place_near(of_one, pair.0, one, at);
+    let in_other = place_near(of_other, pair.1, other, at);
+    let near = (in_one, in_other);
+    let back = (in_other, in_one);
+    push_stops_passed(pair.0, one, other, of_one, of_other, near, beside)?;
+    push_stops_passed(pair.1, other, one, of_other, of_one, back, beside)?;
     Ok(())
 }
 
-// Appends the stops of the edge, which is at this place, at those of the other one, but for such as are among its own.
+// The place of the edge's stop at the point among its own, or of the first one behind that; where there is no point, none.
+fn place_near(own: &[Stop], place: usize, edge: Edge, at: Option<Point>) -> usize {
+    match at {
+        Some(point) => place_of(own, stop_of(place, edge, point.x, point.y)),
+        None => usize::MAX,
+    }
+}
+
+// The place of the stop among those of its edge, which stand in order, or of the first one behind it.
+fn place_of(own: &[Stop], stop: Stop) -> usize {
+    own.partition_point(|known| comes_before(*known, stop))
+}
+
+// Whether the one stop of an edge comes before the other.
+fn comes_before(one: Stop, other: Stop) -> bool {
+    one.along_x < other.along_x || one.along_x == other.along_x && one.along_y < other.along_y
+}
+
+// Appends the stops of the edge, which is at this place, at those of the other one, but for such as are among its own. Most often
+// there is just the one at which they cross, and `near` tells where that stands among its own and among the others.
 //
 // Seen from the edge's line, turned so that the other one rises over it, what lies far below stands before all that is passed, and
 // what lies far above behind it.
@@ -109,6 +151,7 @@ fn push_stops_passed<A: Allocator>(
     other: Edge,
     own: &[Stop],
     others: &[Stop],
+    near: (usize, usize),
     beside: &mut Vec<Stop, A>,
 ) -> Result<(), AllocError>
     requires { StandAlong other others.now }
@@ -117,12 +160,12 @@ fn push_stops_passed<A: Allocator>(
         (known ++ beside.new.items)) }
 {
     let line = line_under(edge, other);
-    for index in first_beside(line, other, others)..others.len() {
+    for index in first_beside(line, other, others, near.1)..others.len() {
         let point = point_of(other, others[index]);
         if lies_far_above(line, point) {
             return Ok(());
         }
-        push_unless_known(place, edge, point, own, beside)?;
+        push_unless_known(place, edge, point, own, near.0, beside)?;
     }
     Ok(())
 }
@@ -138,9 +181,38 @@ fn line_under(edge: Edge, other: Edge) -> Edge
     edge
 }
 
-// A place among the stops of the other edge, which rises over the line, before which the line's own edge passes none: the first one
-// that doesn't lie far below, mostly.
-fn first_beside(line: Edge, other: Edge, others: &[Stop]) -> usize
+// A place among the stops of the other edge, which rises over the line, before which the line's own edge passes none: this one, or
+// the first one that doesn't lie far below, mostly.
+fn first_beside(line: Edge, other: Edge, others: &[Stop], near: usize) -> usize
+    requires along { StandAlong other others.now }
+    requires rises { RisesOver line other }
+    ensures within { result ≤ length others.now }
+    ensures before { NonePassed line other 0 result others.now }
+{
+    if none_before(line, other, others, near) {
+        return near;
+    }
+    first_by_halving(line, other, others)
+}
+
+// Whether the one before this place lies far below, or it is the first place: then the line's own edge passes none before it.
+fn none_before(line: Edge, other: Edge, others: &[Stop], near: usize) -> bool
+    requires along { StandAlong other others.now }
+    requires rises { RisesOver line other }
+    ensures within { result ≡ true → near ≤ length others.now }
+    ensures before { result ≡ true → NonePassed line other 0 near others.now }
+{
+    if near == 0 {
+        return true;
+    }
+    if others.len() < near {
+        return false;
+    }
+    lies_far_below(line, point_of(other, others[near - 1]))
+}
+
+// The same place by halving, whatever lies before.
+fn first_by_halving(line: Edge, other: Edge, others: &[Stop]) -> usize
     requires along { StandAlong other others.now }
     requires rises { RisesOver line other }
     ensures within { result ≤ length others.now }
@@ -177,21 +249,25 @@ fn lies_far_above(line: Edge, point: Point) -> bool
 }
 
 // Appends the stop of the edge, which is at this place, at the point, if it passes that between its ends, unless it is among its
-// own.
+// own. At the place `near` of these it is looked for first.
 fn push_unless_known<A: Allocator>(
     place: usize,
     edge: Edge,
     point: Point,
     own: &[Stop],
+    near: usize,
     beside: &mut Vec<Stop, A>,
 ) -> Result<(), AllocError>
     ensures { OnOk result ((known : List Stop) → ((stop : Stop) → Contains own.now stop → Contains known stop)
         → GainsThese (IsStopAlong place edge point.x point.y) (known ++ beside.old.items) (known ++ beside.new.items)) }
 {
+    let stop = stop_of(place, edge, point.x, point.y);
+    if is_at(stop, own, near) {
+        return Ok(());
+    }
     if !passes_inside(edge, point.x, point.y) {
         return Ok(());
     }
-    let stop = stop_of(place, edge, point.x, point.y);
     if !is_among(stop, own) {
         beside.push(stop)?;
     }
@@ -208,4 +284,21 @@ fn is_among(stop: Stop, own: &[Stop]) -> bool
         }
     }
     false
+}
+
+// Whether the stop stands at this place of its edge's own.
+fn is_at(stop: Stop, own: &[Stop], near: usize) -> bool
+    ensures { result ≡ true → Contains own.now stop }
+{
+    if own.len() <= near {
+        return false;
+    }
+    are_one(own[near], stop)
+}
+
+// Whether they are one stop.
+fn are_one(one: Stop, other: Stop) -> bool
+    ensures { result ≡ true → one ≡ other }
+{
+    one == other
 }

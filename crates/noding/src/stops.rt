@@ -137,7 +137,7 @@ fn stops_by_pairs<A: Allocator + Copy>(
 {
     push_stops_of_crossings(edges, crossings, &mut stops)?;
     sort_stops(&mut stops)?;
-    let beside = stops_beside(*stops.allocator(), edges, pairs, &stops)?;
+    let beside = stops_beside(*stops.allocator(), edges, pairs, crossings, &stops)?;
     if beside.is_empty() {
         return Ok(stops);
     }

@@ -36,3 +36,13 @@ returns-else-not-is_among g c = λ known among.
     let held : Contains c.args.own.now c.stop_of-stop.result = c.is_among.ensures c.if-not-is_among.false in
     gains-known (IsStopAlong c.args.place c.args.edge point.x point.y) (known ++ c.args.beside.now.items)
     (λ stop along. Contains-append_left known c.args.beside.now.items stop (subst (Contains known) (sym along.1) (among (stop_of c.args.place c.args.edge point.x point.y) (subst (Contains c.args.own.now) is held))))
+
+pub returns-then-is_at : goal.returns-then-is_at
+returns-then-is_at g c = λ known among.
+    let point = c.args.point in
+    let x : FitsSigned w32 c.args.point.x = search rules in
+    let y : FitsSigned w32 c.args.point.y = search rules in
+    let is : c.stop_of-stop.result ≡ stop_of c.args.place c.args.edge point.x point.y = simp to_z-of_z at c.stop_of-stop.ensures in
+    let held : Contains c.args.own.now c.stop_of-stop.result = c.is_at.ensures c.if-is_at.true in
+    gains-known (IsStopAlong c.args.place c.args.edge point.x point.y) (known ++ c.args.beside.now.items)
+    (λ stop along. Contains-append_left known c.args.beside.now.items stop (subst (Contains known) (sym along.1) (among (stop_of c.args.place c.args.edge point.x point.y) (subst (Contains c.args.own.now) is held))))

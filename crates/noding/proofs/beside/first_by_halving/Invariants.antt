@@ -1,6 +1,6 @@
 use Rattle.std.proofs.Common.{◌≤◌, ◌-◌, length}
 use Rattle.noding.specs.Beside.{NonePassed}
-use Rattle.noding.proofs.beside.first_beside.Given as goal
+use Rattle.noding.proofs.beside.first_by_halving.Given as goal
 
 -- none is passed that stands before `low`
 abbrev pub invariant-loop-low : goal.invariant-loop-low
