@@ -1,8 +1,13 @@
+pub mod Alone
+pub mod Apart
+pub mod Backwards
 pub mod Checked
 pub mod Circles
 pub mod Contacts
+pub mod Corners
 pub mod Directing
 pub mod Framed
 pub mod Graphs
 pub mod Meetings
 pub mod Own
+pub mod Touching

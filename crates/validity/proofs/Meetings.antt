@@ -32,7 +32,7 @@ some-same a b h = cc
 
 -- ---- points that are the same
 
-swapped : (m n : ℕ) (a : ℤ) → (pos m *ℤ (pos n *ℤ a)) ≡ (pos n *ℤ (pos m *ℤ a))
+pub swapped : (m n : ℕ) (a : ℤ) → (pos m *ℤ (pos n *ℤ a)) ≡ (pos n *ℤ (pos m *ℤ a))
 swapped m n a = identity (times (n_of m) (times (n_of n) (number a))) (times (n_of n) (times (n_of m) (number a))) (omega arith)
 
 -- a point that is the same as a whole one is this
