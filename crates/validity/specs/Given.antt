@@ -1,5 +1,5 @@
 -- Polygons as they are given, and their rings as they are looked at.
-use Rattle.std.specs.Prelude.{Bool, true, false, cond, int_lt, pos, List, [], ◌∷◌, length, map, reverse}
+use Rattle.std.specs.Prelude.{◌≡◌, ℕ, Bool, true, false, cond, int_lt, pos, List, [], ◌∷◌, get_or, length, map, reverse}
 use Rattle.plane.specs.declared.point.Point.{Point}
 use Rattle.plane.specs.Ends.{start_of}
 use Rattle.overlay.specs.Areas.{twice_area}
@@ -21,6 +21,10 @@ polygons_of set = lists_of (rings_at set.rings) 0 set.polygon_ends.now
 pub record HasPolygons (set : PolygonSet) : Type 0 where
   pub rings : HasEnds set.rings
   pub polygons : StopAll set.polygon_ends.now (length set.rings.ends.now)
+
+-- The polygon at this place has one ring alone.
+abbrev pub HasOneRing : PolygonSet → ℕ → Type 0
+HasOneRing set polygon = length (get_or (polygons_of set) polygon []) ≡ 1
 
 -- The points at which the edges of a ring start, but for edges from a point to itself: so none of these is the next one again, nor
 -- the last one the first one.

@@ -1,9 +1,9 @@
 //! `PolygonSet`: polygons, as points and where each ring and each polygon stops.
 
-ghost use Rattle.std.specs.Prelude.{◌≡◌, ◌↔◌, ◌<◌, ◌≤◌, ℕ, IsTrue, length, slice_index};
+ghost use Rattle.std.specs.Prelude.{◌≡◌, ◌↔◌, ◌<◌, ◌≤◌, ℕ, IsTrue, MatchBool, length, slice_index};
 ghost use Rattle.overlay.specs.Rings.{AreEnds};
 ghost use Rattle.tiles.specs.Join.{StopAll, start_at};
-ghost use Rattle.validity.specs.Given.{HasPolygons};
+ghost use Rattle.validity.specs.Given.{HasOneRing, HasPolygons};
 
 use overlay::Rings;
 
@@ -62,4 +62,14 @@ fn start_at(ends: &[usize], place: usize) -> usize
     ensures { result ≡ start_at ends.now place }
 {
     if place == 0 { 0 } else { ends[place - 1] }
+}
+
+// Whether the polygon at this place has one ring alone.
+pub(crate) fn has_one_ring(set: PolygonSet, polygon: usize) -> bool
+    requires set { HasPolygons set }
+    requires polygon { polygon < length set.polygon_ends.now }
+    ensures { MatchBool result (HasOneRing set.entry polygon) (¬ (HasOneRing set.entry polygon)) }
+{
+    let (first, behind) = range_at(set.polygon_ends, polygon);
+    behind - first == 1
 }

@@ -1,6 +1,7 @@
 //! Whether polygons are valid, and what is wrong with them.
 
 ghost use Rattle.std.specs.Prelude.{◌≡◌, ◌↔◌, ◌<◌, [], All, Err, IfErr, IfOk, MatchOption, false, get_or, length, map};
+ghost use Rattle.std.specs.List.{flat_map};
 ghost use Rattle.overlay.specs.Contours.Rings.{real_edges, ring_edges};
 ghost use Rattle.overlay.specs.Nesting.{PolygonWindsOnce};
 ghost use Rattle.overlay.specs.Overlay.{polygon_edges};
@@ -8,18 +9,19 @@ ghost use Rattle.overlay.specs.Rings.{HasEnds, edges_of};
 ghost use Rattle.validity.specs.Given.{HasPolygons, directed, polygons_of, rings_at};
 ghost use Rattle.validity.specs.Meeting.{AllMayMeet};
 ghost use Rattle.validity.specs.OnePiece.{TouchAlongNoCircle};
-ghost use Rattle.validity.specs.Validity.{IsFault, IsSimple, IsValid, WindOnce};
+ghost use Rattle.validity.specs.Validity.{IsFault, IsSimple, IsValid, WindOnce, WindOtherwise};
 ghost use Rattle.validity.specs.declared.unchecked.Unchecked.TheVariants.{Lengths, OutOfMemory};
 
 use crate::directed::{directed_polygon, directed_rings};
 use crate::fault::Fault;
-use crate::given::{PolygonSet, are_polygons};
+use crate::given::{PolygonSet, are_polygons, has_one_ring};
 use crate::meeting::first_wrong;
 use crate::once::first_otherwise;
 use crate::one_piece::first_circle;
 use crate::unchecked::Unchecked;
 use overlay::Rings;
 use overlay::rings::{append_real_ones, edges_of, ring_at};
+use plane::point::Point;
 use std::alloc::Allocator;
 
 /// What is wrong with the polygons, or nothing where they are valid. Nothing is rounded but a place that is told.
@@ -137,12 +139,13 @@ fn fault_of_edges<A: Allocator + Copy>(
     }))
 }
 
-// What is wrong with a polygon, where edges meet as they may.
+// What is wrong with a polygon, where rings are simple and edges meet as they may.
 fn fault_of_polygons<A: Allocator + Copy>(
     alloc: A,
     set: PolygonSet,
 ) -> Result<Option<Fault>, Unchecked>
     requires set { HasPolygons set }
+    requires simple { All IsSimple (rings_at set.rings) }
     requires meet { AllMayMeet false (polygon_edges (map directed (polygons_of set))) }
     ensures ok { IfOk result (λ found. MatchOption found (All (λ polygon. PolygonWindsOnce (directed polygon)) (polygons_of set.entry))
         (IsFault (rings_at set.entry.rings) (polygons_of set.entry))) }
@@ -150,12 +153,34 @@ fn fault_of_polygons<A: Allocator + Copy>(
 {
     // The polygons before this one wind once.
     for polygon in 0..set.polygon_ends.len() {
-        let own = directed_polygon(alloc, set, polygon)?;
-        if let Some(point) = first_otherwise(alloc, own)? {
+        if let Some(point) = point_outside(alloc, set, polygon)? {
             return Ok(Some(Fault::HolesOutside { polygon, point }));
         }
     }
     Ok(None)
+}
+
+// A point around which the polygon at this place winds otherwise than once or not at all, if there is any.
+fn point_outside<A: Allocator + Copy>(
+    alloc: A,
+    set: PolygonSet,
+    polygon: usize,
+) -> Result<Option<Point>, Unchecked>
+    requires set { HasPolygons set }
+    requires polygon { polygon < length set.polygon_ends.now }
+    requires simple { All IsSimple (rings_at set.rings) }
+    requires meet { AllMayMeet false (polygon_edges (map directed (polygons_of set))) }
+    ensures ok { IfOk result (λ found. MatchOption found (PolygonWindsOnce (directed (get_or (polygons_of set.entry) polygon [])))
+        (λ _. WindOtherwise (flat_map ring_edges (directed (get_or (polygons_of set.entry) polygon []))))) }
+    ensures fault { IfErr result (λ cause. cause ≡ OutOfMemory) }
+{
+    // A simple ring by itself winds once or not at all.
+    if has_one_ring(set, polygon) {
+        return Ok(None);
+    }
+    let own = directed_polygon(alloc, set, polygon)?;
+    let found = first_otherwise(alloc, own)?;
+    Ok(found)
 }
 
 // What is wrong with all polygons together, where edges meet as they may.
