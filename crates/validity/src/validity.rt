@@ -183,14 +183,19 @@ fn point_outside<A: Allocator + Copy>(
     Ok(found)
 }
 
-// What is wrong with all polygons together, where edges meet as they may.
+// What is wrong with all polygons together, where edges meet as they may and each polygon winds once or not at all.
 fn fault_of_all<A: Allocator + Copy>(alloc: A, set: PolygonSet) -> Result<Option<Fault>, Unchecked>
     requires set { HasPolygons set }
+    requires each_once { All (λ polygon. PolygonWindsOnce (directed polygon)) (polygons_of set) }
     requires meet { AllMayMeet false (polygon_edges (map directed (polygons_of set))) }
     ensures ok { IfOk result (λ found. MatchOption found (WindOnce (polygon_edges (map directed (polygons_of set.entry))))
         (IsFault (rings_at set.entry.rings) (polygons_of set.entry))) }
     ensures fault { IfErr result (λ cause. cause ≡ OutOfMemory) }
 {
+    // One polygon alone winds as it does by itself.
+    if set.polygon_ends.len() == 1 {
+        return Ok(None);
+    }
     let all = directed_rings(alloc, set)?;
     let Some(point) = first_otherwise(alloc, all)? else {
         return Ok(None);

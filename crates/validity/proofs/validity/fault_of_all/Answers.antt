@@ -1,16 +1,24 @@
-use Rattle.std.proofs.Common.{List, ap, map, subst, sym}
+use Rattle.std.proofs.Common.{List, ap, map, subst, sym, arith}
 use Rattle.std.specs.List.{flat_map}
 use Rattle.plane.specs.declared.point.Point.{Point}
 use Rattle.overlay.specs.Contours.Rings.{ring_edges}
 use Rattle.overlay.specs.Overlay.{polygon_edges}
 use Rattle.overlay.specs.Polygons.{rings_of}
 use Rattle.overlay.proofs.Callers.{rings-joined}
+use Rattle.tiles.proofs.JoinLists.{length-lists_of}
 use Rattle.tiles.proofs.JoinWinds.{AreUncrossed}
-use Rattle.validity.specs.Given.{directed, polygons_of}
+use Rattle.validity.specs.Given.{directed, polygons_of, rings_at}
 use Rattle.validity.specs.Validity.{WindOnce, WindOtherwise}
+use Rattle.validity.proofs.Alone.{one-once}
 use Rattle.validity.proofs.Framed.{none-is, some-is}
 use Rattle.validity.proofs.Meetings.{touch-uncrossed}
 use Rattle.validity.proofs.validity.fault_of_all.Goals as goal
+
+pub returns-then-set-eq1-clause-ok : goal.returns-then-set-eq1-clause-ok
+returns-then-set-eq1-clause-ok g c =
+    let size = length-lists_of (rings_at c.args.set.rings) 0 c.args.set.polygon_ends.now in
+    let one = c.if-set-eq1.true in
+    one-once (polygons_of c.args.set) (omega (arith, size, one)) c.requires.each_once
 
 pub first_otherwise-requires-clause-uncrossed : goal.first_otherwise-requires-clause-uncrossed
 first_otherwise-requires-clause-uncrossed g c =
