@@ -8,7 +8,7 @@ ghost use Rattle.overlay.specs.Overlay.{polygon_edges};
 ghost use Rattle.overlay.specs.Rings.{HasEnds, edges_of};
 ghost use Rattle.validity.specs.Given.{HasPolygons, directed, polygons_of, rings_at};
 ghost use Rattle.validity.specs.Meeting.{AllMayMeet};
-ghost use Rattle.validity.specs.OnePiece.{TouchAlongNoCircle};
+ghost use Rattle.validity.specs.OnePiece.{ComesFree, TouchAlongNoCircle, TouchesIn};
 ghost use Rattle.validity.specs.Validity.{IsFault, IsSimple, IsValid, WindOnce, WindOtherwise};
 ghost use Rattle.validity.specs.declared.unchecked.Unchecked.TheVariants.{Lengths, OutOfMemory};
 
@@ -17,7 +17,7 @@ use crate::fault::Fault;
 use crate::given::{PolygonSet, are_polygons, has_one_ring};
 use crate::meeting::first_wrong;
 use crate::once::first_otherwise;
-use crate::one_piece::first_circle;
+use crate::one_piece::{Contact, first_circle};
 use crate::unchecked::Unchecked;
 use overlay::Rings;
 use overlay::rings::{append_real_ones, edges_of, ring_at};
@@ -215,8 +215,7 @@ fn fault_of_pieces<A: Allocator + Copy>(
 {
     // The insides of the polygons before this one are one piece.
     for polygon in 0..set.polygon_ends.len() {
-        let own = directed_polygon(alloc, set, polygon)?;
-        if let Some(touch) = first_circle(alloc, own.rings())? {
+        if let Some(touch) = circle_in(alloc, set, polygon)? {
             return Ok(Some(Fault::Disconnected {
                 polygon,
                 ring: touch.ring,
@@ -225,4 +224,26 @@ fn fault_of_pieces<A: Allocator + Copy>(
         }
     }
     Ok(None)
+}
+
+// A ring of the polygon at this place and a point in which it touches others, along a circle, if there are any.
+fn circle_in<A: Allocator + Copy>(
+    alloc: A,
+    set: PolygonSet,
+    polygon: usize,
+) -> Result<Option<Contact>, Unchecked>
+    requires set { HasPolygons set }
+    requires polygon { polygon < length set.polygon_ends.now }
+    ensures ok { IfOk result (λ found. MatchOption found (TouchAlongNoCircle (directed (get_or (polygons_of set.entry) polygon [])))
+        (λ touch. TouchesIn (directed (get_or (polygons_of set.entry) polygon [])) touch.ring touch.point
+        × (¬ (ComesFree (directed (get_or (polygons_of set.entry) polygon [])) touch.ring touch.point)))) }
+    ensures fault { IfErr result (λ cause. cause ≡ OutOfMemory) }
+{
+    // One ring by itself touches no other.
+    if has_one_ring(set, polygon) {
+        return Ok(None);
+    }
+    let own = directed_polygon(alloc, set, polygon)?;
+    let found = first_circle(alloc, own.rings())?;
+    Ok(found)
 }
