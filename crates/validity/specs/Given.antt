@@ -26,6 +26,10 @@ pub record HasPolygons (set : PolygonSet) : Type 0 where
 abbrev pub HasOneRing : PolygonSet → ℕ → Type 0
 HasOneRing set polygon = length (get_or (polygons_of set) polygon []) ≡ 1
 
+-- There is one polygon alone, and it has one ring alone.
+abbrev pub IsOneRing : PolygonSet → Type 0
+IsOneRing set = (length (polygons_of set) ≡ 1) × HasOneRing set 0
+
 -- The points at which the edges of a ring start, but for edges from a point to itself: so none of these is the next one again, nor
 -- the last one the first one.
 abbrev pub corners_of : List Point → List Point

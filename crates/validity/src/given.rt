@@ -3,7 +3,7 @@
 ghost use Rattle.std.specs.Prelude.{◌≡◌, ◌↔◌, ◌<◌, ◌≤◌, ℕ, IsTrue, MatchBool, length, slice_index};
 ghost use Rattle.overlay.specs.Rings.{AreEnds};
 ghost use Rattle.tiles.specs.Join.{StopAll, start_at};
-ghost use Rattle.validity.specs.Given.{HasOneRing, HasPolygons};
+ghost use Rattle.validity.specs.Given.{HasOneRing, HasPolygons, IsOneRing};
 
 use overlay::Rings;
 
@@ -72,4 +72,15 @@ pub(crate) fn has_one_ring(set: PolygonSet, polygon: usize) -> bool
 {
     let (first, behind) = range_at(set.polygon_ends, polygon);
     behind - first == 1
+}
+
+// Whether there is one polygon alone, and it has one ring alone.
+pub(crate) fn is_one_ring(set: PolygonSet) -> bool
+    requires { HasPolygons set }
+    ensures { MatchBool result (IsOneRing set.entry) (¬ (IsOneRing set.entry)) }
+{
+    if set.polygon_ends.len() != 1 {
+        return false;
+    }
+    has_one_ring(set, 0)
 }

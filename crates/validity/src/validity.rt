@@ -14,7 +14,7 @@ ghost use Rattle.validity.specs.declared.unchecked.Unchecked.TheVariants.{Length
 
 use crate::directed::{directed_polygon, directed_rings};
 use crate::fault::Fault;
-use crate::given::{PolygonSet, are_polygons, has_one_ring};
+use crate::given::{PolygonSet, are_polygons, has_one_ring, is_one_ring};
 use crate::meeting::first_wrong;
 use crate::once::first_otherwise;
 use crate::one_piece::{Contact, first_circle};
@@ -118,16 +118,21 @@ fn fault_of_ring<A: Allocator + Copy>(
     }))
 }
 
-// What is wrong with two edges.
+// What is wrong with two edges, where rings are simple.
 fn fault_of_edges<A: Allocator + Copy>(
     alloc: A,
     set: PolygonSet,
 ) -> Result<Option<Fault>, Unchecked>
-    requires { HasPolygons set }
+    requires set { HasPolygons set }
+    requires simple { All IsSimple (rings_at set.rings) }
     ensures ok { IfOk result (λ found. MatchOption found (AllMayMeet false (polygon_edges (map directed (polygons_of set.entry))))
         (IsFault (rings_at set.entry.rings) (polygons_of set.entry))) }
     ensures fault { IfErr result (λ cause. cause ≡ OutOfMemory) }
 {
+    // Edges of a simple ring meet at common ends.
+    if is_one_ring(set) {
+        return Ok(None);
+    }
     let all = directed_rings(alloc, set)?;
     let edges = edges_of(alloc, all.rings())?;
     let Some(pair) = first_wrong(alloc, &edges, false)? else {
