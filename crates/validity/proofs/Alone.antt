@@ -44,14 +44,14 @@ module _ (ring : List Point) (is : IsSimple ring) where
   real = ring-real corners (corners-three ring is) (corners-once ring is)
 
   -- its corners wind once around each point or not at all, the way that they run
-  winds : WindsOnce corners
-  winds = winds-directed corners (corners-ring ring is) noded distinct real
+  pub corners-wind : WindsOnce corners
+  corners-wind = winds-directed corners (corners-ring ring is) noded distinct real
 
-  signed : HasSignedArea corners
-  signed = area-directed corners (corners-ring ring is) noded distinct real
+  pub corners-signed : HasSignedArea corners
+  corners-signed = area-directed corners (corners-ring ring is) noded distinct real
 
   -- so those that are directed wind to the left
-  turned-once : (point : RationalPoint) → (winding (ring_edges (turned true ring)) point ≡ pos 0) ⊎ (winding (ring_edges (turned true ring)) point ≡ pos 1)
+  pub turned-once : (point : RationalPoint) → (winding (ring_edges (turned true ring)) point ≡ pos 0) ⊎ (winding (ring_edges (turned true ring)) point ≡ pos 1)
   turned-once point = by (is_counterclockwise corners) (int_lt (twice_area corners) (pos 0)) refl refl
     where
       some : 0 < length corners
@@ -63,10 +63,10 @@ module _ (ring : List Point) (is : IsSimple ring) where
 
       by : (s t : Bool) → is_counterclockwise corners ≡ s → int_lt (twice_area corners) (pos 0) ≡ t
           → (winding (ring_edges (cond t (reverse corners) corners)) point ≡ pos 0) ⊎ (winding (ring_edges (cond t (reverse corners) corners)) point ≡ pos 1)
-      by true false runs tests = (winds point).0 runs
-      by true true runs tests = absurd (let above = signed.0 runs in omega (arith, ints, above, tests))
-      by false true runs tests = back (winding (ring_edges corners) point) (winding (ring_edges (reverse corners)) point) (winding-backwards corners some point) ((winds point).1 runs)
-      by false false runs tests = absurd (let below = signed.1 runs in omega (arith, ints, below, tests))
+      by true false runs tests = (corners-wind point).0 runs
+      by true true runs tests = absurd (let above = corners-signed.0 runs in omega (arith, ints, above, tests))
+      by false true runs tests = back (winding (ring_edges corners) point) (winding (ring_edges (reverse corners)) point) (winding-backwards corners some point) ((corners-wind point).1 runs)
+      by false false runs tests = absurd (let below = corners-signed.1 runs in omega (arith, ints, below, tests))
 
   pub ring-once : PolygonWindsOnce (directed (ring ∷ []))
   ring-once = subst (λ (edges : List Edge). (point : RationalPoint) → (winding edges point ≡ pos 0) ⊎ (winding edges point ≡ pos 1)) (sym (append-nil (ring_edges (turned true ring)))) turned-once

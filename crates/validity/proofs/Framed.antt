@@ -1,8 +1,8 @@
--- Edges in a window, and the border of this.
-use Rattle.std.proofs.Common.{◌≡◌, ◌≢◌, ◌⊎◌, inl, inr, ℕ, ◌+◌, ◌<◌, pos, List, [], ◌∷◌, ◌++◌, ◌∙◌, append-nil, ap, Option, Some, None, get_or, length, take, subst, arith}
+-- What is inside of edges, by itself and within a border.
+use Rattle.std.proofs.Common.{◌≡◌, ◌≢◌, ◌⊎◌, inl, inr, ℕ, ◌+◌, ◌<◌, Bool, true, false, ◌||◌, ℤ, pos, ◌-ℤ◌, ◌<ℤ◌, ◌≤ℤ◌, List, [], ◌∷◌, ◌++◌, ◌∙◌, append-nil, refl, ap, Option, Some, None, get_or, length, take, subst, sym, arith}
 use Rattle.std.specs.Int.{int_max, int_min}
 use Rattle.std.specs.Option.{MatchOption}
-use Rattle.std.proofs.lemmas.Int.{clamps, ints}
+use Rattle.std.proofs.lemmas.Int.{by_lt_z, clamps, ints}
 use Rattle.std.specs.List.{All, Contains, flat_map}
 use Rattle.std.proofs.lemmas.List.Elements.{All-contains, All-more, All-weaker, Contains-append_cases}
 use Rattle.std.proofs.lemmas.List.Concat.{flat_map-append}
@@ -11,22 +11,26 @@ use Rattle.plane.specs.declared.point.Point.{Point}
 use Rattle.plane.specs.Ends.{end_of, start_of}
 use Rattle.plane.specs.Meet.Edges.{RationalPoint}
 use Rattle.noding.specs.Local.{CrossBeside}
-use Rattle.noding.specs.Windings.{winding}
-use Rattle.overlay.specs.declared.fill.rules.FillRule.TheVariants.{NonZero}
-use Rattle.overlay.specs.declared.fill.rules.Operation.TheVariants.{Intersection}
+use Rattle.noding.specs.Windings.{count, winding}
+use Rattle.noding.proofs.SnapLemmas.Windings.{winding-append}
+use Rattle.overlay.specs.declared.fill.rules.FillRule.{FillRule}
+use Rattle.overlay.specs.declared.fill.rules.FillRule.TheVariants.{Negative, Positive}
+use Rattle.overlay.specs.declared.fill.rules.Operation.TheVariants.{Union}
 use Rattle.overlay.specs.Contours.Rings.{ring_edges}
-use Rattle.overlay.specs.Overlay.{IsOverlay}
+use Rattle.overlay.specs.Fill.Rules.{is_inside}
+use Rattle.overlay.specs.Overlay.{IsOverlay, polygon_edges}
+use Rattle.overlay.proofs.Callers.{exact-everywhere}
 use Rattle.overlay.proofs.ContourLemmas.Counts.{rings-closed}
 use Rattle.overlay.proofs.UncrossedLemmas.Axes.{axes-meet}
 use Rattle.tiles.specs.Tile.{turned_border}
 use Rattle.tiles.specs.Window.{HasPoints, InWindow, IsWithin}
 use Rattle.tiles.specs.declared.window.Window.{Window}
-use Rattle.tiles.proofs.Border.{turned-along}
+use Rattle.tiles.proofs.Border.{border-winds, borders-nothing, turned-along}
 use Rattle.tiles.proofs.JoinOutside.{winds-within}
 use Rattle.tiles.proofs.JoinSides.{EdgeWithin, beside-uncrossed, never-beside, uncrossed-exchanged}
 use Rattle.tiles.proofs.JoinSome.{some-winds}
 use Rattle.tiles.proofs.JoinUncrossed.{rings-ends, side-beside}
-use Rattle.tiles.proofs.JoinWinds.{AreUncrossed, finds-nothing, finds-some}
+use Rattle.tiles.proofs.JoinWinds.{AreUncrossed, nothing-winds}
 use Rattle.validity.specs.Validity.{WindOnce, WindOtherwise}
 
 -- The window with the point in it, too.
@@ -37,6 +41,70 @@ widened_by window point = record {
   right = int_max window.right point.x;
   high = int_max window.high point.y;
 }
+
+-- ---- what is inside of edges
+
+-- one of two tests is true, or none
+none-true : (s t : Bool) → count (s || t) ≡ pos 0 → s ≡ false
+none-true false t none = refl
+none-true true t none = absurd (omega (arith, ints, none))
+
+first-true : (s t : Bool) → t ≡ false → count (s || t) ≢ pos 0 → s ≡ true
+first-true true t isnt any = refl
+first-true false false isnt any = absurd (any refl)
+first-true false true isnt any = absurd (never isnt)
+  where
+    never : true ≡ false → ⊥
+    never h = cc
+
+-- a number from 0 up to 1
+by-number : (w : ℤ) → pos 0 ≤ℤ w → w ≤ℤ pos 1 → (w ≡ pos 0) ⊎ (w ≡ pos 1)
+by-number w from upto =
+    by_lt_z (pos 0) w (λ above. inr (let once : w ≡ pos 1 = omega (arith, ints, above, upto) in once)) (λ below. inl (let none : w ≡ pos 0 = omega (arith, ints, from, below) in none))
+
+module _ (edges : List Edge) (found : List (List (List Point))) where
+  -- the overlay of edges with nothing is exact
+  inside-exact : (rule : FillRule) → IsOverlay rule Union edges [] found → AreUncrossed edges → (point : RationalPoint)
+      → winding (polygon_edges found) point ≡ count (is_inside rule (winding edges point) || is_inside rule (winding [] point))
+  inside-exact rule is uncrossed point = exact-everywhere rule Union edges [] found is (λ one other x y held held_too. uncrossed one other x y (alone one held) (alone other held_too)) point
+    where
+      alone : (edge : Edge) → Contains (edges ++ []) edge → Contains edges edge
+      alone edge held = subst (λ (list : List Edge). Contains list edge) (append-nil edges) held
+
+  -- where it is empty no point is inside by the rule
+  none-inside : (rule : FillRule) → found ≡ [] → IsOverlay rule Union edges [] found → AreUncrossed edges → (point : RationalPoint) → is_inside rule (winding edges point) ≡ false
+  none-inside rule none is uncrossed point =
+      none-true (is_inside rule (winding edges point)) (is_inside rule (winding [] point))
+      (sym (inside-exact rule is uncrossed point) ∙ ap (λ (polygons : List (List (List Point))). winding (polygon_edges polygons) point) none ∙ nothing-winds point)
+
+  -- and else some point is
+  some-inside : (rule : FillRule) → is_inside rule (pos 0) ≡ false → found ≢ [] → IsOverlay rule Union edges [] found → AreUncrossed edges → (point : RationalPoint) × (is_inside rule (winding edges point) ≡ true)
+  some-inside rule outside any is uncrossed =
+      let (point, winds) = some-winds rule Union edges [] found is any in (
+        point,
+        first-true (is_inside rule (winding edges point)) (is_inside rule (winding [] point)) (ap (is_inside rule) (nothing-winds point) ∙ outside)
+            (λ none. winds (inside-exact rule is uncrossed point ∙ none)),
+      )
+
+  none-positive : found ≡ [] → IsOverlay Positive Union edges [] found → AreUncrossed edges → (point : RationalPoint) → winding edges point ≤ℤ pos 0
+  none-positive none is uncrossed point = let isnt = none-inside Positive none is uncrossed point in omega (arith, ints, isnt)
+
+  some-positive : found ≢ [] → IsOverlay Positive Union edges [] found → AreUncrossed edges → (point : RationalPoint) × (pos 0 <ℤ winding edges point)
+  some-positive any is uncrossed = let (point, more) = some-inside Positive refl any is uncrossed in (point, omega (arith, ints, more))
+
+  -- edges that wind once at most, and below 0 nowhere
+  pub nothing-below : ((point : RationalPoint) → winding edges point ≤ℤ pos 1) → found ≡ [] → IsOverlay Negative Union edges [] found → AreUncrossed edges → WindOnce edges
+  nothing-below most none is uncrossed point =
+      let isnt = none-inside Negative none is uncrossed point in
+      by-number (winding edges point) (omega (arith, ints, isnt)) (most point)
+
+  -- or below 0 somewhere
+  pub some-below : found ≢ [] → IsOverlay Negative Union edges [] found → AreUncrossed edges → WindOtherwise edges
+  some-below any is uncrossed =
+      let (point, less) = some-inside Negative refl any is uncrossed in
+      (point, λ none. omega (arith, ints, less, none), λ once. omega (arith, ints, less, once))
+
+-- ---- edges in a window
 
 module _ (rings : List (List Point)) (whole : Window) (some : HasPoints whole) (all : All (IsWithin whole) (flat_map (λ ring. ring) rings)) (uncrossed : AreUncrossed (flat_map ring_edges rings)) where
   abbrev edges : List Edge
@@ -60,21 +128,38 @@ module _ (rings : List (List Point)) (whole : Window) (some : HasPoints whole) (
       by (inr first) (inl second) = let (box, boxed, aside) = side-beside whole one some first in beside-uncrossed box whole one other x y aside boxed (within other second)
       by (inr first) (inr second) = never-beside one other x y (λ point of_one of_other. axes-meet one other point (turned-along whole one first) (turned-along whole other second) of_one of_other)
 
-  -- where nothing is in both they wind once or not at all
-  pub nothing-once : (found : List (List (List Point))) → found ≡ [] → IsOverlay NonZero Intersection edges (edges ++ sides) found → WindOnce edges
-  nothing-once found none is = finds-nothing edges whole some (subst (λ (polygons : List (List (List Point))). IsOverlay NonZero Intersection edges (edges ++ sides) polygons) none is) framed-uncrossed
+  -- with the border they wind once less within the window
+  framed-winds : (point : RationalPoint) → (InWindow whole point × (winding (edges ++ sides) point ≡ (winding edges point -ℤ pos 1))) ⊎ ((¬ (InWindow whole point)) × (winding (edges ++ sides) point ≡ winding edges point))
+  framed-winds point =
+      let sum = winding-append edges sides point in
+      let both = borders-nothing whole point in
+      elim (border-winds whole some point) [
+        | inl (inside, around) ↦ inl (inside, omega (arith, ints, sum, both, around))
+        | inr (beside, around) ↦ inr (beside, omega (arith, ints, sum, both, around))
+      ]
 
-  -- and where something is they wind otherwise
-  pub some-otherwise : (found : List (List (List Point))) → found ≢ [] → IsOverlay NonZero Intersection edges (edges ++ sides) found → WindOtherwise edges
-  some-otherwise found any is =
-      let (point, winds) = some-winds NonZero Intersection edges (edges ++ sides) found is any in
-      let (apart, otherwise) = finds-some edges whole found some is framed-uncrossed near point winds in
-      (point, apart, otherwise)
-    where
-      near : (point : RationalPoint) → winding edges point ≢ pos 0 → winding edges point ≡ pos 1 → InWindow whole point
-      near point apart once = elim (winds-within point whole edges (λ test. rings-closed test rings) within) [
-        | inl is ↦ is
-        | inr none ↦ absurd (apart none)
+  -- where nothing is wound around then they wind once at most
+  pub nothing-above : ((point : RationalPoint) → pos 0 ≤ℤ winding edges point) → (found : List (List (List Point))) → found ≡ [] → IsOverlay Positive Union (edges ++ sides) [] found → WindOnce edges
+  nothing-above least found none is point =
+      let from = least point in
+      let upto = none-positive (edges ++ sides) found none is framed-uncrossed point in
+      by-number (winding edges point) from
+      (elim (framed-winds point) [
+        | inl (inside, less) ↦ (let most : winding edges point ≤ℤ pos 1 = omega (arith, ints, upto, less) in most)
+        | inr (beside, same) ↦ (let most : winding edges point ≤ℤ pos 1 = omega (arith, ints, upto, same) in most)
+      ])
+
+  -- and where something is they wind more often
+  pub some-above : (found : List (List (List Point))) → found ≢ [] → IsOverlay Positive Union (edges ++ sides) [] found → WindOtherwise edges
+  some-above found any is =
+      let (point, more) = some-positive (edges ++ sides) found any is framed-uncrossed in
+      elim (framed-winds point) [
+        | inl (inside, less) ↦ (point, λ none. omega (arith, ints, more, less, none), λ once. omega (arith, ints, more, less, once))
+        | inr (beside, same) ↦
+            elim (winds-within point whole edges (λ test. rings-closed test rings) within) [
+              | inl is_in ↦ absurd (beside is_in)
+              | inr nothing ↦ absurd (let level : pos 0 <ℤ pos 0 = omega (arith, ints, more, same, nothing) in omega (arith, ints, level))
+            ]
       ]
 
 -- ---- the window

@@ -1,6 +1,7 @@
 pub mod Alone
 pub mod Apart
 pub mod Backwards
+pub mod Bounds
 pub mod Checked
 pub mod Circles
 pub mod Contacts

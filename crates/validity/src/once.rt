@@ -1,14 +1,15 @@
 //! Whether rings wind once around each point or not at all.
 
 ghost use Rattle.std.specs.Int.{int_max, int_min};
-ghost use Rattle.std.specs.Prelude.{◌≡◌, ◌≢◌, [], ◌++◌, ◌∷◌, All, List, IfErr, IfOk, MatchOption, OnOk, length};
+ghost use Rattle.std.specs.Prelude.{◌≡◌, ◌≢◌, ◌≤ℤ◌, pos, [], ◌++◌, ◌∷◌, All, List, IfErr, IfOk, MatchOption, OnOk, length};
 ghost use Rattle.noding.specs.Offsets.{AreJoined};
-ghost use Rattle.overlay.specs.declared.fill.rules.FillRule.TheVariants.{NonZero};
-ghost use Rattle.overlay.specs.declared.fill.rules.Operation.TheVariants.{Intersection};
+ghost use Rattle.overlay.specs.declared.fill.rules.Operation.TheVariants.{Union};
 ghost use Rattle.overlay.specs.Overlay.{IsOverlay};
 ghost use Rattle.overlay.specs.Polygons.{Appends};
 ghost use Rattle.overlay.specs.Rings.{HasEnds, edges_in, edges_of};
 ghost use Rattle.plane.specs.declared.point.Point.{Point};
+ghost use Rattle.plane.specs.Meet.Edges.{RationalPoint};
+ghost use Rattle.noding.specs.Windings.{winding};
 ghost use Rattle.tiles.specs.Tile.{turned_border};
 ghost use Rattle.tiles.specs.Window.{HasPoints, IsWithin};
 ghost use Rattle.tiles.proofs.JoinWinds.{AreUncrossed};
@@ -17,31 +18,43 @@ ghost use Rattle.validity.specs.declared.unchecked.Unchecked.TheVariants.{OutOfM
 
 use crate::directed::DirectedRings;
 use crate::unchecked::Unchecked;
-use monotone_chains::overlay;
-use overlay::{FillRule, Operation, OverlayFault, Polygons, Rings};
+use monotone_chains::simplify;
+use overlay::{FillRule, OverlayFault, Polygons, Rings};
 use plane::point::Point;
 use std::alloc::{AllocError, Allocator};
 use tiles::Window;
 
-// A point about which the rings wind otherwise than once or not at all, if there is any.
-pub(crate) fn first_otherwise<A: Allocator + Copy>(
+// A point about which the rings wind less than not at all, if there is any, where they wind once at most.
+pub(crate) fn first_below<A: Allocator + Copy>(
+    alloc: A,
+    directed: DirectedRings<A>,
+) -> Result<Option<Point>, Unchecked>
+    requires joined { (rings : List (List Point)) × AreJoined rings directed.points.items directed.ends.items }
+    requires uncrossed { AreUncrossed (edges_in directed.points.items directed.ends.items) }
+    requires most { (point : RationalPoint) → winding (edges_in directed.points.items directed.ends.items) point ≤ℤ pos 1 }
+    ensures ok { IfOk result (λ found. MatchOption found (WindOnce (edges_in directed.points.items directed.ends.items))
+        (λ _. WindOtherwise (edges_in directed.points.items directed.ends.items))) }
+    ensures fault { IfErr result (λ cause. cause ≡ OutOfMemory) }
+{
+    let found = first_inside(alloc, directed.rings(), FillRule::Negative)?;
+    Ok(found)
+}
+
+// A point about which the rings wind more than once, if there is any, where they wind not at all at least.
+pub(crate) fn first_above<A: Allocator + Copy>(
     alloc: A,
     mut directed: DirectedRings<A>,
 ) -> Result<Option<Point>, Unchecked>
     requires joined { (rings : List (List Point)) × AreJoined rings directed.points.items directed.ends.items }
     requires uncrossed { AreUncrossed (edges_in directed.points.items directed.ends.items) }
+    requires least { (point : RationalPoint) → pos 0 ≤ℤ winding (edges_in directed.points.items directed.ends.items) point }
     ensures ok { IfOk result (λ found. MatchOption found (WindOnce (edges_in directed.points.items directed.ends.items))
         (λ _. WindOtherwise (edges_in directed.points.items directed.ends.items))) }
     ensures fault { IfErr result (λ cause. cause ≡ OutOfMemory) }
 {
     let window = window_around(&directed.points);
     append_border(window, &mut directed)?;
-    let count = directed.ends.len() - 1;
-    let rings = Rings {
-        points: &directed.points,
-        ends: &directed.ends[..count],
-    };
-    let found = first_in_both(alloc, rings, directed.rings())?;
+    let found = first_inside(alloc, directed.rings(), FillRule::Positive)?;
     Ok(found)
 }
 
@@ -88,25 +101,24 @@ fn corner(x: i32, y: i32) -> Point
     Point { x, y }
 }
 
-// The first point of the polygons of what both wind around, if there are any.
-fn first_in_both<A: Allocator + Copy>(
+// The first point of the polygons of what is inside of the rings by the rule, if there are any.
+fn first_inside<A: Allocator + Copy>(
     alloc: A,
     rings: Rings,
-    others: Rings,
+    rule: FillRule,
 ) -> Result<Option<Point>, Unchecked>
-    requires ends { HasEnds rings }
-    requires other_ends { HasEnds others }
+    requires { HasEnds rings }
     ensures ok { IfOk result (λ found. (polygons : List (List (List Point)))
-        × IsOverlay NonZero Intersection (edges_of rings.entry) (edges_of others.entry) polygons
+        × IsOverlay rule Union (edges_of rings.entry) [] polygons
         × MatchOption found (polygons ≡ []) (λ _. polygons ≢ [])) }
     ensures fault { IfErr result (λ cause. cause ≡ OutOfMemory) }
 {
-    let mut both = Polygons::new(alloc);
-    append_both(rings, others, &mut both)?;
-    if both.polygon_ends.is_empty() {
+    let mut inside = Polygons::new(alloc);
+    append_inside(rings, rule, &mut inside)?;
+    if inside.polygon_ends.is_empty() {
         return Ok(None);
     }
-    Ok(Some(first_of(&both.points)))
+    Ok(Some(first_of(&inside.points)))
 }
 
 // The first of the points, if there are any.
@@ -117,26 +129,19 @@ fn first_of(points: &[Point]) -> Point {
     points[0]
 }
 
-// Appends the polygons of what both wind around, from right ends on.
-fn append_both<A: Allocator + Copy>(
+// Appends the polygons of what is inside of the rings by the rule, from right ends on.
+fn append_inside<A: Allocator + Copy>(
     rings: Rings,
-    others: Rings,
+    rule: FillRule,
     out: &mut Polygons<A>,
 ) -> Result<(), Unchecked>
-    requires ends { HasEnds rings }
-    requires other_ends { HasEnds others }
+    requires { HasEnds rings }
     ensures ok { OnOk result ((polygons : List (List (List Point)))
-        × IsOverlay NonZero Intersection (edges_of rings.entry) (edges_of others.entry) polygons
+        × IsOverlay rule Union (edges_of rings.entry) [] polygons
         × Appends polygons out.old out.new) }
     ensures fault { IfErr result (λ cause. cause ≡ OutOfMemory) }
 {
-    match overlay(
-        rings,
-        others,
-        FillRule::NonZero,
-        Operation::Intersection,
-        out,
-    ) {
+    match simplify(rings, rule, out) {
         Ok(()) => Ok(()),
         Err(OverlayFault::Refused(_)) => Err(Unchecked::OutOfMemory),
         // The ends are right.

@@ -16,7 +16,7 @@ use crate::directed::{directed_polygon, directed_rings};
 use crate::fault::Fault;
 use crate::given::{PolygonSet, are_polygons, has_one_ring, is_one_ring};
 use crate::meeting::first_wrong;
-use crate::once::first_otherwise;
+use crate::once::{first_above, first_below};
 use crate::one_piece::{Contact, first_circle};
 use crate::unchecked::Unchecked;
 use overlay::Rings;
@@ -184,7 +184,7 @@ fn point_outside<A: Allocator + Copy>(
         return Ok(None);
     }
     let own = directed_polygon(alloc, set, polygon)?;
-    let found = first_otherwise(alloc, own)?;
+    let found = first_below(alloc, own)?;
     Ok(found)
 }
 
@@ -202,7 +202,7 @@ fn fault_of_all<A: Allocator + Copy>(alloc: A, set: PolygonSet) -> Result<Option
         return Ok(None);
     }
     let all = directed_rings(alloc, set)?;
-    let Some(point) = first_otherwise(alloc, all)? else {
+    let Some(point) = first_above(alloc, all)? else {
         return Ok(None);
     };
     Ok(Some(Fault::PolygonsOverlap { point }))
