@@ -103,6 +103,9 @@ int32_t proved_itree_clip_lines(const struct itree_point *lines, size_t line_poi
 int32_t proved_itree_polygon_parents(const struct itree_point *points, size_t point_count, const size_t *ring_ends,
                                      size_t rings, const size_t *shape_ends, size_t shapes, size_t *parents,
                                      size_t parent_count);
+int32_t proved_itree_polygons_fault(const struct itree_point *points, size_t point_count, const size_t *ring_ends,
+                                    size_t rings, const size_t *shape_ends, size_t shapes,
+                                    struct itree_fault_place *fault);
 
 #define OF(type) sizeof(type), alignof(type)
 
@@ -472,6 +475,12 @@ int32_t itree_polygon_parents(const struct itree_shapes *polygons, size_t *paren
     if (!can_be_many(polygons) || !can_hold(parents, parent_count, OF(size_t))) return ITREE_POINTER;
     limits_begin();
     return limits_end(proved_itree_polygon_parents(SHAPES(polygons), slice(parents, parent_count), parent_count));
+}
+
+int32_t itree_polygons_fault(const struct itree_shapes *polygons, struct itree_fault_place *fault) {
+    if (!can_be_many(polygons) || !can_hold(fault, 1, OF(struct itree_fault_place))) return ITREE_POINTER;
+    limits_begin();
+    return limits_end(proved_itree_polygons_fault(SHAPES(polygons), fault));
 }
 
 int32_t itree_locate(const struct itree_edge *edges, size_t edge_count, const struct itree_point *points,

@@ -595,6 +595,47 @@ int32_t itree_clip_lines(const struct itree_lines *lines, const struct itree_poi
  * polygons may not be NULL. */
 int32_t itree_polygon_parents(const struct itree_shapes *polygons, size_t *parents, size_t parent_count);
 
+/* What is wrong with polygons that aren't valid. */
+enum itree_fault {
+    ITREE_VALID = 0,         /* Nothing is. */
+    ITREE_FEW_POINTS = 1,    /* The ring has fewer than three points. */
+    ITREE_MEETS_ITSELF = 2,  /* The ring crosses or touches itself: two edges of it do. */
+    ITREE_RINGS_CROSS = 3,   /* Two edges cross or share more than one point; of one ring that is ITREE_MEETS_ITSELF. */
+    ITREE_HOLES_OUTSIDE = 4, /* A hole of the polygon lies outside of its outer ring, or in another hole. */
+    ITREE_POLYGONS_OVERLAP = 5, /* Two polygons overlap. */
+    ITREE_DISCONNECTED = 6      /* The inside of the polygon is no one piece: its rings touch along a circle. */
+};
+
+/* What is wrong, one of itree_fault, and where; 0 stands where nothing is told. */
+struct itree_fault_place {
+    size_t kind;
+    size_t polygon;           /* At ITREE_HOLES_OUTSIDE and ITREE_DISCONNECTED: the place of the polygon. */
+    size_t ring;              /* At ITREE_FEW_POINTS and ITREE_MEETS_ITSELF the place of the ring among all; at
+                               * ITREE_DISCONNECTED among those of the polygon. */
+    struct itree_point point; /* At ITREE_HOLES_OUTSIDE and ITREE_POLYGONS_OVERLAP: a point near which it is. At
+                               * ITREE_DISCONNECTED: where the ring touches another one on the circle. */
+    struct itree_edge one;    /* At ITREE_MEETS_ITSELF and ITREE_RINGS_CROSS: the two edges. */
+    struct itree_edge other;
+};
+
+/* Tells whether polygons are valid, as OGC has it, or what is wrong with them, and where: the first fault that is found. It
+ * is exact: nothing is rounded.
+ *
+ * The first ring of each shape is its outer one, those behind it are its holes. Rings may run either way, and a point that is
+ * the next one again, as the first one at the end of its ring, counts once. Polygons are valid where each ring has three
+ * points or more, visits none twice, and neither crosses nor touches itself; where edges of several rings meet only in single
+ * points, at an end of one of them; where holes lie in their outer ring, side by side; where no two polygons overlap; and
+ * where the inside of each polygon is one piece. They may touch in points, and so may a hole and its outer ring or another
+ * hole, but rings along no circle. Edges are told as they stand in the ring given at ITREE_MEETS_ITSELF; and at
+ * ITREE_RINGS_CROSS as they are where outer rings run counterclockwise and holes clockwise. The call returns
+ *   ITREE_ANSWERED  and *fault is written, whose kind is ITREE_VALID exactly where the polygons are valid;
+ *   ITREE_REFUSED   and they may be valid or not;
+ *   ITREE_POINTER   exactly where a pointer is faulty;
+ *   ITREE_LENGTHS   exactly where none is, and a ring or a shape stops before it begins, or behind the points or the rings;
+ *                   or rings stand behind the last shape.
+ * *fault is written at ITREE_ANSWERED alone. polygons and fault may not be NULL. */
+int32_t itree_polygons_fault(const struct itree_shapes *polygons, struct itree_fault_place *fault);
+
 /* The edge straight below a point: found is 1 and place its place, or both are 0 where there is none. */
 struct itree_place {
     size_t found, place;

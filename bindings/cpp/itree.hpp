@@ -1683,6 +1683,83 @@ template <typename Lines = detail::InBraces<Position>, typename Items = detail::
     return parents(polygons.layer());
 }
 
+/// What is wrong with polygons that aren't valid.
+enum class FaultKind : std::size_t {
+    /// The ring has fewer than three points.
+    few_points = ITREE_FEW_POINTS,
+    /// The ring crosses or touches itself: two edges of it do.
+    meets_itself = ITREE_MEETS_ITSELF,
+    /// Two edges cross or share more than one point; of one ring that is `meets_itself`.
+    rings_cross = ITREE_RINGS_CROSS,
+    /// A hole of the polygon lies outside of its outer ring, or in another hole.
+    holes_outside = ITREE_HOLES_OUTSIDE,
+    /// Two polygons overlap.
+    polygons_overlap = ITREE_POLYGONS_OVERLAP,
+    /// The inside of the polygon is no one piece: its rings touch along a circle.
+    disconnected = ITREE_DISCONNECTED
+};
+
+/// What is wrong with polygons, and where; 0 stands where nothing is told.
+struct PolygonsFault {
+    FaultKind kind;
+    /// Where holes lie outside, or the inside is no one piece: the place of the polygon.
+    std::size_t polygon;
+    /// Where a ring has few points or meets itself, its place among all rings; where the inside of a polygon is no one piece, that
+    /// of a ring among the polygon's.
+    std::size_t ring;
+    /// Where holes lie outside or polygons overlap, a point near which they do; where the inside is no one piece, the point in which
+    /// the ring touches another one.
+    Point point;
+    /// Where a ring meets itself or rings cross: the two edges.
+    Edge one, other;
+};
+
+namespace detail {
+
+inline std::optional<PolygonsFault> polygons_fault(const Layer &polygons) {
+    const auto polygons_of_c = of_c(polygons);
+    ::itree_fault_place fault{};
+    throw_unless_shapes_answered(::itree_polygons_fault(&polygons_of_c, &fault));
+    if (fault.kind == ITREE_VALID) return std::nullopt;
+    return PolygonsFault{
+        static_cast<FaultKind>(fault.kind), fault.polygon, fault.ring, fault.point, fault.one, fault.other};
+}
+
+}  // namespace detail
+
+/// What is wrong with polygons, or nothing where they are valid. It is exact: nothing is rounded.
+///
+///     if (const auto fault = itree::polygons_fault(parcels)) mark(fault->point);
+///
+/// Each shape is a polygon: its first ring is the outer one, those behind it are its holes. Rings may run either way. When
+/// polygons are valid is said at `itree_polygons_fault` of itree.h. They are given as `overlay_each` takes shapes, and each ring
+/// alone is a polygon, too; all of them together are looked at. Throws what `overlay_each` does, and `std::invalid_argument` where
+/// rings stand behind the last polygon.
+template <typename Items>
+[[nodiscard]] std::optional<PolygonsFault> polygons_fault(const Items &polygons) {
+    const auto all = detail::shapes_of(polygons);
+    return detail::polygons_fault(all);
+}
+
+/// The same of positions, which are first rounded to the grid: so what is told is true of the polygons on the grid.
+template <typename Items>
+[[nodiscard]] std::optional<PolygonsFault> polygons_fault(const Items &polygons, const Grid &grid) {
+    const auto all = detail::shapes_on(grid, polygons);
+    return detail::polygons_fault(all);
+}
+
+/// Whether polygons are valid: whether `polygons_fault` finds nothing. It takes and throws what that does.
+template <typename Items>
+[[nodiscard]] bool is_valid(const Items &polygons) {
+    return !polygons_fault(polygons);
+}
+
+/// The same of positions, which are first rounded to the grid.
+template <typename Items>
+[[nodiscard]] bool is_valid(const Items &polygons, const Grid &grid) {
+    return !polygons_fault(polygons, grid);
+}
+
 /// Polygons within a window, as `overlay_in` makes them, that are only read.
 struct Tile {
     Window window;

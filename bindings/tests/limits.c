@@ -85,6 +85,7 @@ static int32_t call(int which) {
     const struct itree_point corners[] = {{0, 0}, {9, 0}, {0, 9}};
     const struct itree_point around[] = {{1, 0}, {0, 1}, {-1, 0}, {0, -1}};
     size_t stop = 0;
+    struct itree_fault_place fault;
     struct itree_pairs *pairs = NULL;
     struct itree_chains *chains = NULL;
     struct itree_polygons *polygons = NULL;
@@ -113,6 +114,7 @@ static int32_t call(int which) {
     case 20: status = itree_erode(points, MANY, &end, 1, around, 4, ITREE_NON_ZERO, &polygons); break;
     case 21: status = itree_grow_lines(points, MANY, &end, 1, around, 4, &polygons); break;
     case 22: status = itree_minkowski_joined(points, MANY, &end, 1, around, 4, 1, 2, 500, &polygons); break;
+    case 23: return itree_polygons_fault(&shapes, &fault);
     }
     const int has_handle = pairs != NULL || chains != NULL || polygons != NULL;
     itree_pairs_free(pairs);
@@ -121,7 +123,7 @@ static int32_t call(int which) {
     return has_handle == (status == ITREE_ANSWERED) ? status : -1;
 }
 
-enum { EACH = 9, CALLS = 23 };
+enum { EACH = 9, CALLS = 24 };
 
 static void checks_memory(void) {
     for (int which = 0; which < CALLS; which++) {

@@ -103,6 +103,8 @@ static void many_shapes(void) {
                        itree_polygons_points(polygons, NULL) == MANY);
     itree_polygons_free(polygons);
     check("parents", itree_polygon_parents(&shapes, parents, SQUARES) == ITREE_ANSWERED && parents[0] == SIZE_MAX);
+    struct itree_fault_place fault = {1, 0, 0, {0, 0}, {0, 0, 0, 0}, {0, 0, 0, 0}};
+    check("valid", itree_polygons_fault(&shapes, &fault) == ITREE_ANSWERED && fault.kind == ITREE_VALID);
     const struct itree_window all = {0, 0, SIDE * APART, SIDE * APART}, column = {0, 0, 4, SIDE * APART};
     struct itree_chains *chains = NULL;
     check("cropped", itree_crop(&all, corners, MANY, ends, SQUARES, &chains) == ITREE_ANSWERED &&

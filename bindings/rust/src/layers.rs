@@ -614,7 +614,7 @@ impl Polygons {
 }
 
 impl Layer<'_> {
-    fn of_c(&self) -> calls::Shapes {
+    pub(crate) fn of_c(&self) -> calls::Shapes {
         calls::Shapes {
             points: self.points.as_ptr(),
             point_count: self.points.len(),
@@ -637,7 +637,7 @@ impl Groups<'_> {
     }
 }
 
-fn check_lengths(status: i32) -> Result<(), LayerFault> {
+pub(crate) fn check_lengths(status: i32) -> Result<(), LayerFault> {
     match status {
         calls::LENGTHS => Err(LayerFault::Lengths),
         _ => Ok(()),

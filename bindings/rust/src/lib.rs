@@ -35,6 +35,7 @@ pub use layers::{
 pub use limits::{limited_to, memory_peak, stopped_by};
 pub use offsets::{circle, erode, grow_lines, minkowski, minkowski_joined, Circle, CircleFault, Join, MinkowskiFault};
 pub use tiles::{crop, join, overlay_in, overlay_threads, whole_window, Tile, TileFault, Window};
+pub use validity::{is_valid, polygons_fault, PolygonsFault};
 pub use wkb::{read_wkb, wkb_corners, wkb_srid, Shapes, WkbFault, WkbFaultKind};
 
 mod grid;
@@ -42,6 +43,7 @@ mod layers;
 mod limits;
 mod offsets;
 mod tiles;
+mod validity;
 mod wkb;
 
 /// The version of the library, as `"0.7.0"`.
@@ -661,6 +663,17 @@ mod calls {
     }
 
     #[repr(C)]
+    #[derive(Default)]
+    pub struct FaultPlace {
+        pub kind: usize,
+        pub polygon: usize,
+        pub ring: usize,
+        pub point: Point,
+        pub one: Edge,
+        pub other: Edge,
+    }
+
+    #[repr(C)]
     #[derive(Clone, Copy)]
     pub struct Place {
         pub found: usize,
@@ -942,6 +955,8 @@ mod calls {
         ) -> i32;
 
         pub fn itree_polygon_parents(polygons: *const Shapes, parents: *mut usize, parent_count: usize) -> i32;
+
+        pub fn itree_polygons_fault(polygons: *const Shapes, fault: *mut FaultPlace) -> i32;
 
         pub fn itree_locate(
             edges: *const Edge,

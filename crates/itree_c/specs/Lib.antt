@@ -1,6 +1,7 @@
 pub mod Chains
 pub mod Choices
 pub mod Circles
+pub mod Faults
 pub mod Grids
 pub mod Handle
 pub mod Heights

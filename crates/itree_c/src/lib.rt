@@ -1,5 +1,5 @@
 //! Calls from C, and so from each language that calls C: a static library over `horizontal`, `plane`, `noding`, `overlay`,
-//! `monotone_chains`, `grid`, `wkb`, `layers`, `tiles` and `offset`.
+//! `monotone_chains`, `grid`, `wkb`, `layers`, `tiles`, `validity` and `offset`.
 //!
 //! Each function takes slices, which are a pointer and a length in C, writes its answers into slices of its caller's,
 //! and answers a status. An answer whose size isn't known before goes out as a handle, which the caller gives back.
@@ -11,6 +11,7 @@ pub mod chains;
 pub mod choices;
 pub mod circles;
 pub mod cropped;
+pub mod faults;
 pub mod grids;
 pub mod grown;
 pub mod grown_joined;
