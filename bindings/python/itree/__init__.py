@@ -67,6 +67,12 @@ Shapes
 
     `python3 -m itree overlay a.geojson b.geojson` takes files: see its --help.
 
+    `is_valid` tells whether a shape is valid, and `is_valid_reason` why it isn't and
+    where, as shapely's. With whole numbers both are exact.
+
+    >>> itree.is_valid_reason([[(0, 0), (4, 4), (4, 0), (0, 4)]])
+    'Self-intersection[2 2]'
+
     `offset` grows and shrinks shapes, lines and points by a distance, as shapely's
     buffer, and `minkowski` polygons by a convex shape of the caller's. There is
     no triangulation, there are no coordinates of 64 bits, and no Z.
@@ -171,6 +177,7 @@ from ._pieces import Pieces
 from ._points import points_in
 from ._rings import Rings
 from ._tiles import crop, join, overlay_in, whole_window
+from ._valid import is_valid, is_valid_reason
 from ._windows import windows
 
 __all__ = [
@@ -190,6 +197,8 @@ __all__ = [
     "crop",
     "first_meeting",
     "how_they_meet",
+    "is_valid",
+    "is_valid_reason",
     "join",
     "locate",
     "make_valid",

@@ -267,7 +267,7 @@ class _Gatherer:
         """Whether it is a shape, or several, which are added."""
         if isinstance(given, self._base):
             self._objects.append((given, where))
-        elif isinstance(given, (bytes, bytearray)) or _is_view_of_bytes(given):
+        elif is_binary(given):
             data = bytes(given)
             self._know(None, _wkb.srid_of(data))
             self._items.append((data, where))
@@ -339,8 +339,11 @@ def one_of(items: Iterable[Any], called: str) -> Any:
     return told[0] if told else None
 
 
-def _is_view_of_bytes(given: Any) -> bool:
-    return isinstance(given, memoryview) and given.format == "B" and isinstance(given.obj, (bytes, bytearray))
+def is_binary(given: Any) -> bool:
+    """Whether it is well-known binary: bytes, or a view of them."""
+    if isinstance(given, memoryview):
+        return given.format == "B" and isinstance(given.obj, (bytes, bytearray))
+    return isinstance(given, (bytes, bytearray))
 
 
 def series_of(given: Any) -> Any:

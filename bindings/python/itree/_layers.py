@@ -56,7 +56,7 @@ class ShapeLayer(Layer):
         raise NotImplementedError
 
 
-class _BinaryLayer(ShapeLayer):
+class BinaryLayer(ShapeLayer):
     """Shapes in well-known binary, or of shapely's, which become well-known binary."""
 
     def __init__(self, binaries: Binaries, crs: Any = None, srid: int = 0) -> None:
@@ -88,10 +88,10 @@ class _AnswerLayer(ShapeLayer):
         self.crs, self.srid = own.crs, own.srid
         self.has_shapes = own.grid is not None
 
-    def _as_binary(self) -> _BinaryLayer:
+    def _as_binary(self) -> BinaryLayer:
         own = self._own
         items = own.to_wkb(srid=0, each=True) if isinstance(own, Polygons) else own.to_wkb(srid=0)
-        return _BinaryLayer(Binaries((), items, lambda place: f"place {place}"))
+        return BinaryLayer(Binaries((), items, lambda place: f"place {place}"))
 
     def is_whole(self) -> bool:
         return self.own_grid is None or self._as_binary().is_whole()
@@ -103,7 +103,7 @@ class _AnswerLayer(ShapeLayer):
         return self._own.lists_of_each() if grid == self.own_grid else self._as_binary().held(grid)
 
 
-class _RingLayer(ShapeLayer):
+class RingLayer(ShapeLayer):
     """Rings, and where each shape begins among them, and where the last stops."""
 
     def __init__(self, gathered: Gathered, offsets: array.array[int]) -> None:
@@ -172,10 +172,10 @@ def layer_of(given: Any, name: str, has_grid: bool) -> ShapeLayer:
         _gathered.check_floats(given, name, has_grid)
         gathered = Gathered(name)
         gathered.own = given
-        return _RingLayer(gathered, array.array("q", range(len(given) + 1)))
+        return RingLayer(gathered, array.array("q", range(len(given) + 1)))
     series = _gathered.series_of(given)
     if series is not None:
-        return _BinaryLayer(_of_objects(_gathered.listed(series), name), series.crs)
+        return BinaryLayer(_of_objects(_gathered.listed(series), name), series.crs)
     items = items_of(given, name)
     known = _in_bulk(items, name) or _of_rows(items, name, has_grid)
     return known or _MixedLayer([_element(it, f"{name}, place {at}", has_grid) for at, it in enumerate(items)])
@@ -194,22 +194,22 @@ def items_of(given: Any, name: str) -> Sequence[Any]:
     return given if isinstance(given, (list, tuple)) else list(_rows._iterated(given, name, "shapes"))
 
 
-def _in_bulk(items: Sequence[Any], name: str) -> Optional[_BinaryLayer]:
+def _in_bulk(items: Sequence[Any], name: str) -> Optional[BinaryLayer]:
     """The layer of shapely's objects alone, or of well-known binary alone, and None; or None of others."""
     first = next((it for it in items if it is not None), None)
     base = _shapely.base()
     if isinstance(first, base):
         if all([it is None or isinstance(it, base) for it in items]):
-            return _BinaryLayer(_of_objects(items, name))
+            return BinaryLayer(_of_objects(items, name))
     elif first is None or isinstance(first, bytes):
         if all([it is None or isinstance(it, bytes) for it in items]):
             binary = [_shapely.NOTHING if it is None else it for it in items]
             srid = _gathered.one_of(map(_wkb.srid_of, binary), "SRID") or 0
-            return _BinaryLayer(Binaries((), binary, _place_in(name)), None, srid)
+            return BinaryLayer(Binaries((), binary, _place_in(name)), None, srid)
     return None
 
 
-def _of_rows(items: Sequence[Any], name: str, has_grid: bool) -> Optional[_RingLayer]:
+def _of_rows(items: Sequence[Any], name: str, has_grid: bool) -> Optional[RingLayer]:
     """The layer of GeoJSON alone, or of lists of rings alone, and None; or None of others."""
     some = [it for it in items if it is not None]
     are_shapes = all([isinstance(it, dict) for it in some])
@@ -231,7 +231,7 @@ def _of_rows(items: Sequence[Any], name: str, has_grid: bool) -> Optional[_RingL
         gathered.rings = GatheredRings(rings, _shapes.floats, "d")
     else:
         gathered.rings = GatheredRings(rings, _shapes.whole_numbers, "i")
-    return _RingLayer(gathered, offsets)
+    return RingLayer(gathered, offsets)
 
 
 def _are_rings(given: Any) -> bool:

@@ -48,6 +48,7 @@ _CALLS = {
     "itree_pairs_free": (None, [_address]),
     "itree_points_in": (_status, [_address, _length, _address, _status, _status, _address]),
     "itree_polygon_parents": (_status, [_address, _address, _length]),
+    "itree_polygons_fault": (_status, [_address, _address]),
     "itree_polygons_free": (None, [_address]),
     "itree_polygons_points": (_length, [_address, _address]),
     "itree_polygons_polygon_offsets": (_length, [_address, _address]),
@@ -106,6 +107,31 @@ class PlaceOfC(ctypes.Structure):
     """itree_wkb_place: what is faulty, in which shape, and the byte at which it begins."""
 
     _fields_ = [("kind", ctypes.c_size_t), ("shape", ctypes.c_size_t), ("byte", ctypes.c_size_t)]
+
+
+class PointOfC(ctypes.Structure):
+    """itree_point."""
+
+    _fields_ = [("x", ctypes.c_int32), ("y", ctypes.c_int32)]
+
+
+class EdgeOfC(ctypes.Structure):
+    """itree_edge."""
+
+    _fields_ = [(end, ctypes.c_int32) for end in ("x0", "y0", "x1", "y1")]
+
+
+class FaultOfC(ctypes.Structure):
+    """itree_fault_place: what is wrong with polygons, 0 where nothing is, and where."""
+
+    _fields_ = [
+        ("kind", _length),
+        ("polygon", _length),
+        ("ring", _length),
+        ("point", PointOfC),
+        ("one", EdgeOfC),
+        ("other", EdgeOfC),
+    ]
 
 
 def checked(status: int, limit: int = 0) -> None:

@@ -7,7 +7,7 @@ import ctypes
 import itertools
 import struct
 import sys
-from typing import Any, Callable, NamedTuple, Optional, Sequence, Tuple
+from typing import Any, Callable, List, NamedTuple, Optional, Sequence, Tuple
 
 from ._answers import Handle, Lists, lists_in
 from ._calls import ONCE, made
@@ -22,6 +22,7 @@ _NAMES = {1: "Point", 2: "LineString", 4: "MultiPoint", 5: "MultiLineString"}
 # What the parts of a geometry are called.
 _PARTS = {3: "ring", 6: "polygon", 7: "geometry"}
 _HAS_SRID = 0x20000000
+_POLYGON, _MULTIPOLYGON = 3, 6
 # What a polygon of two coordinates begins with, in little-endian binary.
 _PLAIN_POLYGON = b"\x01\x03\0\0\0"
 # Numbers that are looked at one by one.
@@ -180,6 +181,52 @@ def write(polygons: Lists, grid: GridOfC, each: bool, srid: int) -> bytearray:
     return room
 
 
+class _Head(NamedTuple):
+    """What a geometry begins with: the order of its bytes; its type; how many numbers a point has; how many parts it has, and
+    where they begin."""
+
+    order: str
+    kind: int
+    width: int
+    parts: int
+    start: int
+
+
+def _head(data: bytes, at: int) -> _Head:
+    order = "<" if data[at] else ">"
+    (kind,) = struct.unpack_from(f"{order}I", data, at + 1)
+    plain = kind & 0xFFFF
+    width = 2 + bool(kind & 0x80000000) + bool(kind & 0x40000000) + (0, 1, 1, 2)[plain // 1000]
+    start = at + 5 + 4 * bool(kind & _HAS_SRID)
+    (count,) = struct.unpack_from(f"{order}I", data, start)
+    return _Head(order, plain % 1000, width, count, start + 4)
+
+
+def polygons_in(data: bytes) -> List[List[bytes]]:
+    """The polygons of a shape whose binary isn't faulty, each in bytes of its own: that of a Polygon in a list, all of a
+    MultiPolygon in one, and so on for the parts of a collection."""
+    parts: List[List[bytes]] = []
+    _add_polygons(data, 0, parts)
+    return parts
+
+
+def _add_polygons(data: bytes, at: int, parts: List[List[bytes]]) -> int:
+    """Adds the polygons of a geometry, which begins at a byte. The answer is where it ends."""
+    head = _head(data, at)
+    end = head.start
+    if head.kind == _POLYGON:
+        for _ in range(head.parts):
+            (points,) = struct.unpack_from(f"{head.order}I", data, end)
+            end += 4 + 8 * head.width * points
+        parts.append([data[at:end]])
+        return end
+    several: List[List[bytes]] = []
+    for _ in range(head.parts):
+        end = _add_polygons(data, end, several)
+    parts += [[it[0] for it in several]] if head.kind == _MULTIPOLYGON else several
+    return end
+
+
 def are_whole(shapes: Binary) -> bool:
     """Whether all coordinates are whole numbers. False of what is faulty, which `corners` tells."""
     data = shapes.data
@@ -201,17 +248,12 @@ def are_whole(shapes: Binary) -> bool:
 
 def _end(data: bytes, at: int, stop: int) -> Optional[int]:
     """Where a geometry ends, or None where one of its coordinates isn't whole."""
-    order = "<" if data[at] else ">"
-    (kind,) = struct.unpack_from(f"{order}I", data, at + 1)
-    width = 2 + bool(kind & 0x80000000) + bool(kind & 0x40000000)
-    plain = kind & 0xFFFF
-    width += (0, 1, 1, 2)[plain // 1000]
-    (count,) = struct.unpack_from(f"{order}I", data, at + 5 + 4 * bool(kind & _HAS_SRID))
-    at += 9 + 4 * bool(kind & _HAS_SRID)
-    for _ in range(count):
+    head = _head(data, at)
+    at = head.start
+    for _ in range(head.parts):
         if at > stop:
             raise IndexError
-        end = _ring_end(data, at, order, width) if plain % 1000 == 3 else _end(data, at, stop)
+        end = _ring_end(data, at, head.order, head.width) if head.kind == _POLYGON else _end(data, at, stop)
         if end is None:
             return None
         at = end
