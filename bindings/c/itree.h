@@ -627,7 +627,9 @@ struct itree_fault_place {
  * points, at an end of one of them; where holes lie in their outer ring, side by side; where no two polygons overlap; and
  * where the inside of each polygon is one piece. They may touch in points, and so may a hole and its outer ring or another
  * hole, but rings along no circle. Edges are told as they stand in the ring given at ITREE_MEETS_ITSELF; and at
- * ITREE_RINGS_CROSS as they are where outer rings run counterclockwise and holes clockwise. The call returns
+ * ITREE_RINGS_CROSS as they are where outer rings run counterclockwise and holes clockwise. For n edges that meet in k pairs
+ * it takes O((n + k) log (n + k)) steps, and room for k pairs: k is n where rings lie apart, and n * n where n triangles touch in
+ * one point. The call returns
  *   ITREE_ANSWERED  and *fault is written, whose kind is ITREE_VALID exactly where the polygons are valid;
  *   ITREE_REFUSED   and they may be valid or not;
  *   ITREE_POINTER   exactly where a pointer is faulty;
