@@ -7,6 +7,7 @@ pub mod Grouping
 pub mod Joined
 pub mod Lines
 pub mod Nesting
+pub mod OnePiece
 pub mod Overlay
 pub mod Polygons
 pub mod Rings
