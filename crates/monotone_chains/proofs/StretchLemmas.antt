@@ -33,6 +33,7 @@ pub mod NestedAcross
 pub mod NestedFirst
 pub mod NestedHoles
 pub mod NestedOrder
+pub mod NestedPieces
 pub mod NestedZips
 pub mod Noded
 pub mod NodedColumns

@@ -209,6 +209,24 @@ module _ (all : List (List Point)) (each : All IsStretch all) where
     on_way [] (way ∷ ways) zip q of = absurd zip
     on_way (edge ∷ some) [] zip q of = absurd zip
 
+    -- where no edge of the one list has the ends of one of the other, a point of the ways of both starts an edge of each
+    pub ways-share : (some others : List Edge) (ways other_ways : List (List Point)) → ((edge : Edge) → Contains some edge → Contains edges edge) → ((edge : Edge) → Contains others edge → Contains edges edge)
+        → ((edge other : Edge) → Contains some edge → Contains others other → ¬ (HaveSameEnds edge other)) → AllZip (GoesAlong all) some ways → AllZip (GoesAlong all) others other_ways
+        → (p : Point) → Contains (flat_map but_last ways) p → Contains (flat_map but_last other_ways) p → (edge : Edge) × (other : Edge) × Contains some edge × Contains others other × (p ≡ start_of edge) × (p ≡ start_of other)
+    ways-share some others ways other_ways among other_among distinct zip other_zip p of other_of =
+        let one = on_way some ways zip p of in
+        let two = on_way others other_ways other_zip p other_of in
+        elim (way-point one.edge one.way one.goes p one.of) [
+          | inl start ↦ elim (way-point two.edge two.way two.goes p two.of) [
+            | inl other_start ↦ (one.edge, two.edge, one.held, two.held, start, other_start)
+            | inr is ↦ absurd (start-outside one.edge two.edge (among one.edge one.held) p p start is refl)
+          ]
+          | inr is ↦ elim (way-point two.edge two.way two.goes p two.of) [
+            | inl other_start ↦ absurd (start-outside two.edge one.edge (other_among two.edge two.held) p p other_start is refl)
+            | inr other_is ↦ absurd (insides-apart one.edge two.edge (distinct one.edge two.edge one.held two.held) p p is other_is refl)
+          ]
+        ]
+
     pub ways-once : (some : List Edge) (ways : List (List Point)) → ((edge : Edge) → Contains some edge → Contains edges edge) → AllPairs (λ one other. start_of one ≢ start_of other) some → AreDistinct some
         → AllZip (GoesAlong all) some ways → AllPairs Differ (flat_map but_last ways)
     ways-once [] [] among starts distinct zip = AllPairs-nil Differ
