@@ -6,10 +6,12 @@ pub mod Each
 pub mod Homes
 pub mod Leaning
 pub mod Left
+pub mod LeftRight
 pub mod LowerBefore
 pub mod Moved
 pub mod Nested
 pub mod NextBelow
+pub mod NextInRing
 pub mod Once
 pub mod OwnPolygon
 pub mod Paired
@@ -20,3 +22,4 @@ pub mod RingHomes
 pub mod Rings
 pub mod Told
 pub mod Walked
+pub mod Whole

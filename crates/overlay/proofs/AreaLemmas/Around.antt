@@ -72,6 +72,16 @@ ends-once at (next ∷ points) behind once last one other (suc k, within, is) (z
 ends-once at (next ∷ points) behind once last one other (suc k, within, is) (suc j, within', is') same =
     ends-once next points behind (AllPairs-tail (λ (point later : Point). point ≢ later) next points once) (All-tail (λ (p : Point). p ≢ behind) next points last) one other (k, omega (arith, within), is) (j, omega (arith, within'), is') same
 
+-- of a ring one edge ends at each point
+pub one-ends : (ring : List Point) → IsRing ring → (one other : Edge) → Contains (ring_edges ring) one → Contains (ring_edges ring) other → end_of one ≡ end_of other → one ≡ other
+one-ends [] is one other among among_too same = absurd (is.some refl)
+one-ends (first ∷ others) is one other among among_too same =
+    let shape = edges_from-first (first ∷ others) in
+    let into : (edge : Edge) → Contains (ring_edges (first ∷ others)) edge → Contains (edges_from (first ∷ others) first) edge = λ edge held. subst (λ (list : List Edge). Contains list edge) shape held in
+    ends-once first others first (AllPairs-tail (λ (point later : Point). point ≢ later) first others is.once)
+    (All-weaker (λ (p : Point). first ≢ p) (λ p. p ≢ first) (λ p apart level. apart (sym level)) others (AllPairs-head (λ (point later : Point). point ≢ later) first others is.once))
+    one other (into one among) (into other among_too) same
+
 -- ---- one edge after the other
 
 module _ (edges : List Edge) (noded : AreNoded edges) (distinct : AreDistinct edges) (sloped : All (λ edge. edge.x0 ≢ edge.x1) edges) (closed : AreBalanced edges)
@@ -148,10 +158,7 @@ one-left (first ∷ others) is noded distinct sloped one other among among_too =
     let into : (edge : Edge) → Contains all edge → Contains (edges_from (first ∷ others) first) edge = λ edge held. subst (λ (list : List Edge). Contains list edge) same held in
     let out : (edge : Edge) → Contains (edges_from (first ∷ others) first) edge → Contains all edge = λ edge held. subst (λ (list : List Edge). Contains list edge) (sym same) held in
     let begins : (a b : Edge) → Contains all a → Contains all b → start_of a ≡ start_of b → a ≡ b = λ a b held held_too level. starts-once (first ∷ others) first is.once a b (into a held) (into b held_too) level in
-    let closes : (a b : Edge) → Contains all a → Contains all b → end_of a ≡ end_of b → a ≡ b =
-    λ a b held held_too level. ends-once first others first (AllPairs-tail (λ (point later : Point). point ≢ later) first others is.once)
-    (All-weaker (λ (p : Point). first ≢ p) (λ p. p ≢ first) (λ p apart level_too. apart (sym level_too)) others (AllPairs-head (λ (point later : Point). point ≢ later) first others is.once))
-    a b (into a held) (into b held_too) level in
+    let closes : (a b : Edge) → Contains all a → Contains all b → end_of a ≡ end_of b → a ≡ b = one-ends (first ∷ others) is in
     let alike : (edge : Edge) → Contains all edge → on_left all edge ≡ on_left all (edge_between first (next_or others first)) =
     λ edge held. alike-along all noded distinct sloped (balanced all (IsClosed-ring (first ∷ others))) begins closes first others first out edge (into edge held) in
     alike one among ∙ sym (alike other among_too)

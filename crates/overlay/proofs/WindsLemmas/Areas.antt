@@ -1,6 +1,5 @@
 -- Edges that wind once around a point or not at all have an area above 0, and so has each polygon that does.
-use Rattle.std.proofs.Common.{◌≡◌, ◌≢◌, [], ◌∷◌, ◌++◌, inl, inr, ◌+◌, ◌<◌, suc, ℕ, ℤ, pos, ◌+ℤ◌, ◌*ℤ◌, ◌<ℤ◌, cond, List, map, refl, ap, ap₂, sym, subst, ◌∙◌, arith}
-use Rattle.std.specs.Int.Signed.{lt_z}
+use Rattle.std.proofs.Common.{◌≡◌, ◌≢◌, [], ◌∷◌, ◌++◌, ◌+◌, ◌<◌, suc, ℕ, ℤ, pos, ◌+ℤ◌, ◌*ℤ◌, ◌<ℤ◌, cond, List, map, refl, ap, ap₂, sym, subst, ◌∙◌, arith}
 use Rattle.std.specs.List.{All, Contains, flat_map}
 use Rattle.std.proofs.lemmas.Int.{by_lt_z, ints}
 use Rattle.std.proofs.lemmas.List.Concat.{flat_map-append}
@@ -45,7 +44,7 @@ above-of n z above =
     by_lt_z (pos 0) z (λ is. is) (λ upto. let most = scaled n z (pos 0) upto in absurd (omega (arith, ints, above, most, none)))
 
 -- the two ways to tell what is on the left of an edge of theirs
-left-is : (edges : List Edge) (edge : Edge) → total (along (rightwards edge)) edges ≡ weight edge → left_of edges edge ≡ on_left edges edge
+pub left-is : (edges : List Edge) (edge : Edge) → total (along (rightwards edge)) edges ≡ weight edge → left_of edges edge ≡ on_left edges edge
 left-is edges edge own =
     by_lt_z edge.x0 edge.x1
     (λ onwards.

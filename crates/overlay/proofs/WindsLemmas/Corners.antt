@@ -74,14 +74,20 @@ module _ (edges : List Edge) (noded : AreNoded edges) (distinct : AreDistinct ed
     abbrev half : RationalPoint
     half = half_way r r.x0 middle
 
-    -- just above the edge they wind as around it
-    above : just_above edges edge ≡ winding edges half
-    above =
-        sym (upto-parts edges noded edge among r.x0 over edges (λ other held. held))
-        ∙ total-same (upto_on r.x0 r) (λ other. cond (is_counted (rightwards other) half) (weight other) (pos 0)) edges
-        (All-among (λ other. upto_on r.x0 r other ≡ cond (is_counted (rightwards other) half) (weight other) (pos 0)) edges
+    -- just above the edge some of them wind as around it
+    above-some : (mine : List Edge) → ((other : Edge) → Contains mine other → Contains edges other) → just_above mine edge ≡ winding mine half
+    above-some mine into =
+        sym (upto-parts edges noded edge among r.x0 over mine into)
+        ∙ total-same (upto_on r.x0 r) (λ other. cond (is_counted (rightwards other) half) (weight other) (pos 0)) mine
+        (All-among (λ other. upto_on r.x0 r other ≡ cond (is_counted (rightwards other) half) (weight other) (pos 0)) mine
         (λ other held. ap (λ (t : Bool). cond t (weight other) (pos 0)) (sym (counted-half r r.x0 middle (rightwards other)))))
-        ∙ sym (winding-total edges half)
+        ∙ sym (winding-total mine half)
+
+    pub winds-above : (mine : List Edge) → ((other : Edge) → Contains mine other → Contains edges other) → (point : RationalPoint) × (just_above mine edge ≡ winding mine point)
+    winds-above mine into = (half, above-some mine into)
+
+    above : just_above edges edge ≡ winding edges half
+    above = above-some edges (λ other held. held)
 
     -- it is the edge's point in its column
     abbrev column : RationalPoint

@@ -35,7 +35,7 @@ abbrev pub holds : List Edge → Edge → Bool
 holds [] edge = false
 holds (first ∷ others) edge = is_same edge first || holds others edge
 
-same-edge : (one other : Edge) → is_same one other ≡ true → other ≡ one
+pub same-edge : (one other : Edge) → is_same one other ≡ true → other ≡ one
 same-edge one other told =
     let (first, second) = and_parts (int_eq one.x0 other.x0 && int_eq one.y0 other.y0) (int_eq one.x1 other.x1 && int_eq one.y1 other.y1) told in
     let (a, b) = and_parts (int_eq one.x0 other.x0) (int_eq one.y0 other.y0) first in
@@ -47,7 +47,7 @@ same-edge one other told =
     ap₂ (λ (x y : ℤ). (let e : Edge = record { x0 = x; y0 = y; x1 = other.x1; y1 = other.y1 } in e)) (sym x0) (sym y0)
     ∙ ap₂ (λ (x y : ℤ). (let e : Edge = record { x0 = one.x0; y0 = one.y0; x1 = x; y1 = y } in e)) (sym x1) (sym y1)
 
-is-same : (edge : Edge) → is_same edge edge ≡ true
+pub is-same : (edge : Edge) → is_same edge edge ≡ true
 is-same edge = rw (int_eq-true edge.x0 edge.x0 refl, int_eq-true edge.y0 edge.y0 refl, int_eq-true edge.x1 edge.x1 refl, int_eq-true edge.y1 edge.y1 refl) refl
 
 either : (s t : Bool) → (s || t) ≡ true → (s ≡ true) ⊎ (t ≡ true)
