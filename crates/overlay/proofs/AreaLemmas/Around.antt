@@ -32,7 +32,7 @@ starts-among [] behind edge (k, within, is) = absurd (omega (arith, within))
 starts-among (at ∷ points) behind edge (zero, within, is) = (0, omega arith, ap (λ (e : Edge). start_of e) is)
 starts-among (at ∷ points) behind edge (suc k, within, is) = Contains-there at points (start_of edge) (starts-among points behind edge (k, omega (arith, within), is))
 
-starts-once : (points : List Point) (behind : Point) → AllPairs (λ point later. point ≢ later) points → (one other : Edge) → Contains (edges_from points behind) one → Contains (edges_from points behind) other
+pub starts-once : (points : List Point) (behind : Point) → AllPairs (λ point later. point ≢ later) points → (one other : Edge) → Contains (edges_from points behind) one → Contains (edges_from points behind) other
     → start_of one ≡ start_of other → one ≡ other
 starts-once [] behind once one other (k, within, is) second same = absurd (omega (arith, within))
 starts-once (at ∷ points) behind once one other (zero, within, is) (zero, within', is') same = sym is ∙ is'
@@ -60,7 +60,7 @@ ends-apart next points behind once last edge among same =
       | inr held ↦ All-contains (λ (p : Point). next ≢ p) points (end_of edge) (AllPairs-head (λ (point later : Point). point ≢ later) next points once) held same
     ]
 
-ends-once : (at : Point) (points : List Point) (behind : Point) → AllPairs (λ point later. point ≢ later) points → All (λ point. point ≢ behind) points
+pub ends-once : (at : Point) (points : List Point) (behind : Point) → AllPairs (λ point later. point ≢ later) points → All (λ point. point ≢ behind) points
     → (one other : Edge) → Contains (edges_from (at ∷ points) behind) one → Contains (edges_from (at ∷ points) behind) other → end_of one ≡ end_of other → one ≡ other
 ends-once at points behind once last one other (zero, within, is) (zero, within', is') same = sym is ∙ is'
 ends-once at [] behind once last one other (zero, within, is) (suc k, within', is') same = absurd (omega (arith, within'))
