@@ -16,6 +16,7 @@ pub mod Once
 pub mod OwnPolygon
 pub mod Paired
 pub mod Pairs
+pub mod Pieced
 pub mod Polygons
 pub mod Regions
 pub mod RingHomes

@@ -3,17 +3,17 @@ use Rattle.std.proofs.Common.{◌≡◌, ◌⊎◌, inl, inr, zero, suc, Bool, t
 use Rattle.std.specs.List.{All, AllPairs, Contains, filter, flat_map}
 use Rattle.std.proofs.lemmas.Int.{ints}
 use Rattle.std.proofs.lemmas.List.Concat.{flat_map-append}
-use Rattle.std.proofs.lemmas.List.Elements.{All-cons, All-contains, All-head, All-nil, All-tail, Contains-append_cases, Contains-append_left, Contains-append_right, Contains-push_cases}
+use Rattle.std.proofs.lemmas.List.Elements.{All-cons, All-contains, All-head, All-nil, All-tail, Contains-append_cases, Contains-append_left, Contains-append_right}
 use Rattle.std.proofs.lemmas.List.Kept.{AllPairs-cons}
 use Rattle.i_tree.proofs.RootLemmas.Lists.{AllPairs-head, AllPairs-tail, Contains-here, Contains-there}
 use Rattle.plane.specs.declared.edge.Edge.{Edge}
 use Rattle.plane.specs.declared.point.Point.{Point}
 use Rattle.plane.specs.Ends.{end_of, start_of}
 use Rattle.noding.specs.Local.{CrossBeside}
-use Rattle.noding.proofs.SnapLemmas.Noded.{ends-among}
 use Rattle.overlay.specs.Contours.Rings.{ring_edges}
 use Rattle.overlay.specs.Overlay.{polygon_edges}
 use Rattle.overlay.specs.Polygons.{rings_of}
+use Rattle.overlay.proofs.GroupingLemmas.Edges.{ring-ends}
 use Rattle.overlay.proofs.UncrossedLemmas.Axes.{axes-meet}
 use Rattle.tiles.specs.Join.{AreBeside, AreParts, IsIn, LiesWithin, Tile, bordering_of, tile_points}
 use Rattle.tiles.specs.Part.{IsPart, at_border, comes_to_border}
@@ -31,19 +31,7 @@ edges-append polygons others =
     ap (λ (rings : List (List Point)). flat_map ring_edges rings) (flat_map-append (λ (polygon : List (List Point)). polygon) polygons others)
     ∙ flat_map-append ring_edges (rings_of polygons) (rings_of others)
 
--- an edge of a ring goes between points of it
-ring-ends : (ring : List Point) (edge : Edge) → Contains (ring_edges ring) edge → Contains ring (start_of edge) × Contains ring (end_of edge)
-ring-ends [] edge (k, within, is) = absurd (omega (arith, within))
-ring-ends (first ∷ others) edge held =
-    let (start, end) = ends-among (first ∷ (others ++ first ∷ [])) edge held in
-    (closes (start_of edge) start, closes (end_of edge) end)
-  where
-    closes : (p : Point) → Contains (first ∷ (others ++ first ∷ [])) p → Contains (first ∷ others) p
-    closes p among = elim (Contains-push_cases (first ∷ others) first p among) [
-      | inl found ↦ found
-      | inr same ↦ subst (λ (q : Point). Contains (first ∷ others) q) same (Contains-here first others)
-    ]
-
+-- an edge of a ring goes between points of it (`ring-ends`), and so do those of many
 pub rings-ends : (rings : List (List Point)) (edge : Edge) → Contains (flat_map ring_edges rings) edge
     → Contains (flat_map (λ ring. ring) rings) (start_of edge) × Contains (flat_map (λ ring. ring) rings) (end_of edge)
 rings-ends [] edge (k, within, is) = absurd (omega (arith, within))

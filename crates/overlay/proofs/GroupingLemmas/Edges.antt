@@ -1,11 +1,12 @@
 -- The edges of a ring, from one of its points on, and the sides among them.
-use Rattle.std.proofs.Common.{◌≡◌, ◌<◌, ◌≤◌, ◌+◌, ◌++◌, [], ◌∷◌, ℕ, zero, suc, Bool, true, false, cond, List, drop, get_or, length, refl, ap, ap₂, sym, subst, take, ◌∙◌, append_assoc, arith}
+use Rattle.std.proofs.Common.{◌≡◌, inl, inr, ◌<◌, ◌≤◌, ◌+◌, ◌++◌, [], ◌∷◌, ℕ, zero, suc, Bool, true, false, cond, List, drop, get_or, length, refl, ap, ap₂, sym, subst, take, ◌∙◌, append_assoc, arith}
 use Rattle.std.specs.Cmp.{IsStrictWeakOrder}
 use Rattle.std.specs.List.{All, Contains, between, flat_map}
 use Rattle.std.specs.List.Sorted.{IsPermutation, IsSortedBy}
 use Rattle.std.specs.Ordering.{int_eq}
 use Rattle.std.proofs.lemmas.List.{at_drop_more, get_or-map, length-append, length-map}
 use Rattle.std.proofs.lemmas.List.Edits.{length-between}
+use Rattle.std.proofs.lemmas.List.Elements.{Contains-push_cases}
 use Rattle.std.proofs.lemmas.List.Sorted.{All-permutation, IsPermutation-map}
 use Rattle.i_tree.proofs.RootLemmas.Lists.{Contains-here, Contains-there}
 use Rattle.plane.specs.declared.edge.Edge.{Edge}
@@ -16,8 +17,9 @@ use Rattle.overlay.specs.Contours.Outlines.{next_or, ring_point}
 use Rattle.overlay.specs.Contours.Rings.{ring_edges}
 use Rattle.overlay.specs.Fill.Begins.{BeginInOrder}
 use Rattle.overlay.specs.Fill.Turned.{piece_of, turned}
-use Rattle.plane.specs.Ends.{edge_between}
+use Rattle.plane.specs.Ends.{edge_between, end_of, start_of}
 use Rattle.noding.specs.Windings.{pieces}
+use Rattle.noding.proofs.SnapLemmas.Noded.{ends-among}
 use Rattle.overlay.proofs.PieceLemmas.Begins.{begins_before, weak_order}
 use Rattle.overlay.proofs.PieceLemmas.Made.{sorted-order}
 use Rattle.overlay.specs.Grouping.{AreSides, IsSideOf, edges_from, no_side, pieces_of}
@@ -50,6 +52,19 @@ edges_from-at (at ∷ points) behind (suc place) within =
 pub edge_at-of : (ring : List Point) (place : ℕ) → place < length ring → Contains (ring_edges ring) (edge_between (ring_point ring place) (next_or (drop (place + 1) ring) (ring_point ring 0)))
 edge_at-of ring place within =
     subst (λ (edges : List Edge). Contains edges (edge_between (ring_point ring place) (next_or (drop (place + 1) ring) (ring_point ring 0)))) (sym (edges_from-first ring)) (edges_from-at ring (ring_point ring 0) place within)
+
+-- each goes between points of the ring
+pub ring-ends : (ring : List Point) (edge : Edge) → Contains (ring_edges ring) edge → Contains ring (start_of edge) × Contains ring (end_of edge)
+ring-ends [] edge (k, within, is) = absurd (omega (arith, within))
+ring-ends (first ∷ others) edge held =
+    let (start, end) = ends-among (first ∷ (others ++ first ∷ [])) edge held in
+    (closes (start_of edge) start, closes (end_of edge) end)
+  where
+    closes : (p : Point) → Contains (first ∷ (others ++ first ∷ [])) p → Contains (first ∷ others) p
+    closes p among = elim (Contains-push_cases (first ∷ others) first p among) [
+      | inl found ↦ found
+      | inr same ↦ subst (λ (q : Point). Contains (first ∷ others) q) same (Contains-here first others)
+    ]
 
 -- ---- how many there are
 

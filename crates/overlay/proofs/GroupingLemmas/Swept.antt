@@ -57,7 +57,7 @@ turned-has (first ∷ edges) edge (suc k, within, is) sloped = by (int_eq first.
     by false later = Contains-there (piece_of Subject first) (turned Subject edges) (piece_of Subject edge) later
 
 -- edges of distinct ones with the same ends are of one ring
-one-ring : (rings : List (List Point)) → AreDistinct (flat_map ring_edges rings) → (a b : ℕ) → a < b → b < length rings → (one other : Edge) → Contains (ring_edges (get_or rings a [])) one → Contains (ring_edges (get_or rings b [])) other
+pub one-ring : (rings : List (List Point)) → AreDistinct (flat_map ring_edges rings) → (a b : ℕ) → a < b → b < length rings → (one other : Edge) → Contains (ring_edges (get_or rings a [])) one → Contains (ring_edges (get_or rings b [])) other
     → ¬ (HaveSameEnds one other)
 one-ring [] distinct a b less within one other first second = absurd (omega (arith, within))
 one-ring (ring ∷ rings) distinct zero zero less within one other first second = absurd (omega (arith, less))

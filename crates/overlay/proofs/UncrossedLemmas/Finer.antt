@@ -7,11 +7,11 @@ use Rattle.plane.specs.declared.point.Point.{Point}
 use Rattle.plane.specs.Ends.{end_of, reversed, start_of}
 use Rattle.plane.specs.Meet.Crosses.{cross}
 use Rattle.plane.specs.Meet.Edges.{IsOf, RationalPoint}
-use Rattle.plane.specs.Meet.Kinds.{IsAt}
-use Rattle.plane.proofs.MeetLemmas.Along.{Lies, flipped, of-flipped}
+use Rattle.plane.specs.Meet.Kinds.{HasPoint, IsAt}
+use Rattle.plane.proofs.MeetLemmas.Along.{Lies, flipped, of-flipped, whole_point}
 use Rattle.plane.proofs.MeetLemmas.Along.{over as exchanged}
 use Rattle.plane.proofs.MeetLemmas.Identities.{identity, minus, number, plus, times, unscaled}
-use Rattle.noding.proofs.SnapLemmas.Local.{IsFiner}
+use Rattle.noding.proofs.SnapLemmas.Local.{IsFiner, IsOf-finer}
 use Rattle.noding.proofs.SnapLemmas.Numbers.{cross-exchanged, n_of, natural, zero_by}
 use Rattle.overlay.specs.Contours.Turns.{dot}
 use Rattle.overlay.proofs.ContourLemmas.Turns.{across, along, some_square}
@@ -89,6 +89,38 @@ whole-finer k point finer is (a, b, at) =
         y_is = whole_on k point.n finer.n point.y finer.y b some is.n is.y at.y_is;
       },
     )
+
+-- a multiple of a whole number of parts
+multiple_on : (m n : ℕ) (z p : ℤ) → p ≡ (pos n *ℤ z) → (pos (m * n) *ℤ z) ≡ (pos m *ℤ p)
+multiple_on m n z p is = identity (times (n_of (m * n)) (number z)) (times (n_of m) (times (n_of n) (number z))) (omega arith) ∙ ap (λ (q : ℤ). pos m *ℤ q) (sym is)
+
+-- so a finer point is where the point is
+pub at-finer : (k : ℕ) (point finer : RationalPoint) (x y : ℤ) → IsFiner k point finer → IsAt point x y → IsAt finer x y
+at-finer k point finer x y is at = record {
+  x_is = is.x ∙ sym (multiple_on k point.n x point.x at.x_is) ∙ ap (λ (m : ℕ). pos m *ℤ x) (sym is.n);
+  y_is = is.y ∙ sym (multiple_on k point.n y point.y at.y_is) ∙ ap (λ (m : ℕ). pos m *ℤ y) (sym is.n);
+}
+
+-- and a point is at one whole point alone
+pub one-point : (point : RationalPoint) (p q : Point) → IsAt point p.x p.y → IsAt point q.x q.y → p ≡ q
+one-point point p q at there =
+    ap₂ (λ (x y : ℤ). (let made : Point = record { x = x; y = y } in made))
+    (times-same point.n p.x q.x point.positive (sym at.x_is ∙ there.x_is))
+    (times-same point.n p.y q.y point.positive (sym at.y_is ∙ there.y_is))
+
+-- a whole point that two edges have is of both over one denominator
+pub common-whole : (one other : Edge) (x y : ℤ) → HasPoint one x y → HasPoint other x y → (n : ℕ) × (some : 0 < n) × IsOf one (whole_point n some x y) × IsOf other (whole_point n some x y)
+common-whole one other x y (a, of_one, at) (b, of_other, there) =
+    let some = mul-pos b.positive a.positive in (
+      b.n * a.n,
+      some,
+      IsOf-finer one b.n a (whole_point (b.n * a.n) some x y) (record { n = refl; x = multiple_on b.n a.n x a.x at.x_is; y = multiple_on b.n a.n y a.y at.y_is }) of_one,
+      IsOf-finer other a.n b (whole_point (b.n * a.n) some x y)
+          (record { n = turned; x = ap (λ (n : ℕ). pos n *ℤ x) turned ∙ multiple_on a.n b.n x b.x there.x_is; y = ap (λ (n : ℕ). pos n *ℤ y) turned ∙ multiple_on a.n b.n y b.y there.y_is }) of_other,
+    )
+  where
+    turned : b.n * a.n ≡ a.n * b.n
+    turned = omega arith
 
 -- ---- edges in the same way
 
