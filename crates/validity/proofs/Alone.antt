@@ -15,6 +15,7 @@ use Rattle.overlay.specs.Areas.{twice_area}
 use Rattle.overlay.specs.Contours.Rings.{ring_edges}
 use Rattle.overlay.specs.Fill.Filled.{AreDistinct, AreNoded}
 use Rattle.overlay.specs.Nesting.{PolygonWindsOnce}
+use Rattle.overlay.specs.OnePiece.{TouchAlongNoCircle}
 use Rattle.overlay.specs.Overlay.{polygon_edges}
 use Rattle.overlay.specs.Polygons.{HasSignedArea, WindsOnce, is_counterclockwise}
 use Rattle.overlay.specs.Rings.{AreEnds}
@@ -23,7 +24,6 @@ use Rattle.tiles.specs.Join.{lists_of, start_at}
 use Rattle.tiles.proofs.JoinLists.{AreEnds-at, lists_of-at}
 use Rattle.validity.specs.Given.{corners_of, directed, turned}
 use Rattle.validity.specs.Meeting.{AllMayMeet}
-use Rattle.validity.specs.OnePiece.{TouchAlongNoCircle}
 use Rattle.validity.specs.Validity.{IsSimple, WindOnce}
 use Rattle.validity.proofs.Apart.{ring-distinct, ring-real}
 use Rattle.validity.proofs.Backwards.{noded-backwards, once-backwards, winding-backwards}

@@ -7,8 +7,8 @@ use Rattle.std.proofs.lemmas.Bool.Decides.{nat_tests}
 use Rattle.std.proofs.lemmas.List.{get_or_default}
 use Rattle.forest.specs.Circles.{HasNoCircle, Parts, ends_at}
 use Rattle.plane.specs.declared.point.Point.{Point}
+use Rattle.overlay.specs.OnePiece.{ComesFree, IsThere, TouchAlongNoCircle, TouchesIn}
 use Rattle.validity.specs.declared.one_piece.Contact.{Contact}
-use Rattle.validity.specs.OnePiece.{ComesFree, IsThere, TouchAlongNoCircle, TouchesIn}
 use Rattle.validity.proofs.Meetings.{by_order, touch-swapped}
 use Rattle.validity.specs.Contacts.{AreContacts, IsGraphOf}
 

@@ -21,12 +21,12 @@ use Rattle.plane.specs.Pairs.Pairs.{ArePairs}
 use Rattle.plane.proofs.PointLemmas.{point-same}
 use Rattle.plane.proofs.GainsLemmas.{HaveSame-sorted, gained-all, gains-join, gains-one, gains-same, held-at, place-of}
 use Rattle.overlay.specs.Contours.Rings.{real_edges, ring_edges}
+use Rattle.overlay.specs.OnePiece.{TouchesIn}
 use Rattle.validity.specs.contracts.one_piece.ContactOrd.TheImpl.{ghosts as contact_order}
 use Rattle.validity.specs.contracts.one_piece.ContactOrd.TheImpl.Laws.{total-law as contact_total}
 use Rattle.validity.specs.declared.one_piece.Contact.{Contact}
 use Rattle.validity.specs.declared.one_piece.OwnedEdge.{OwnedEdge}
 use Rattle.validity.specs.Contacts.{AreContacts, AreOwned, AreTogether, IsContactAt, IsContactOf, edge_of}
-use Rattle.validity.specs.OnePiece.{TouchesIn}
 use Rattle.validity.proofs.Meetings.{by_order, touch-only, touch-swapped}
 
 module _ (rings : List (List Point)) (owned : List OwnedEdge) (are : AreOwned rings owned) where

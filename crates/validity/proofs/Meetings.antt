@@ -1,7 +1,6 @@
 -- What follows where edges meet as they may.
-use Rattle.std.proofs.Common.{◌≡◌, ◌≢◌, ◌⊎◌, ⊎_elim, inl, inr, ℕ, zero, suc, ◌*◌, ◌<◌, ℤ, pos, ◌*ℤ◌, Bool, true, false, List, Some, get_or, length, refl, ap, ap₂, sym, subst, ◌∙◌, arith}
+use Rattle.std.proofs.Common.{◌≡◌, ◌≢◌, ◌⊎◌, ⊎_elim, inl, inr, ℕ, zero, suc, ◌<◌, ℤ, pos, ◌*ℤ◌, Bool, true, false, List, Some, get_or, length, refl, ap, ap₂, sym, subst, ◌∙◌, arith}
 use Rattle.std.specs.List.{AllPairs, slice_get}
-use Rattle.std.proofs.Math.Nat.{mul-pos}
 use Rattle.std.proofs.lemmas.Option.{slice_get-get_or}
 use Rattle.plane.specs.declared.edge.Edge.{Edge}
 use Rattle.plane.specs.declared.meet.kinds.Meeting.TheVariants.{Apart, Cross, Share, Touch}
@@ -12,10 +11,9 @@ use Rattle.plane.specs.Meet.Edges.{IsOf, RationalPoint}
 use Rattle.plane.specs.Meet.Kinds.{AreSame, HasPoint, IsAt, IsEnd, MeetSo}
 use Rattle.plane.proofs.MeetLemmas.Along.{ends, starts, whole_point}
 use Rattle.plane.proofs.MeetLemmas.Identities.{identity, number, times}
-use Rattle.noding.proofs.SnapLemmas.Local.{IsOf-finer}
 use Rattle.noding.proofs.SnapLemmas.Numbers.{n_of}
 use Rattle.overlay.specs.Fill.Filled.{AreNoded}
-use Rattle.overlay.proofs.UncrossedLemmas.Finer.{AreParallel, IsWhole, parallel-itself, times-same}
+use Rattle.overlay.proofs.UncrossedLemmas.Finer.{AreParallel, IsWhole, common-whole, parallel-itself, times-same}
 use Rattle.tiles.proofs.JoinSides.{never-beside}
 use Rattle.tiles.proofs.JoinWinds.{AreUncrossed}
 use Rattle.validity.specs.Meeting.{AllMayMeet, MayMeet, MeetInTurn}
@@ -141,23 +139,7 @@ module _ (edges : List Edge) (all : AllMayMeet true edges) where
 
 -- ---- the point in which edges touch
 
--- a whole point of both, over one denominator
-common-whole : (one other : Edge) (x y : ℤ) → HasPoint one x y → HasPoint other x y → (n : ℕ) × (some : 0 < n) × IsOf one (whole_point n some x y) × IsOf other (whole_point n some x y)
-common-whole one other x y (a, of_one, at) (b, of_other, there) =
-    let some = mul-pos b.positive a.positive in (
-      b.n * a.n,
-      some,
-      IsOf-finer one b.n a (whole_point (b.n * a.n) some x y) (record { n = refl; x = scaled_at b.n a.n x a.x at.x_is; y = scaled_at b.n a.n y a.y at.y_is }) of_one,
-      IsOf-finer other a.n b (whole_point (b.n * a.n) some x y) (record { n = turned; x = ap (λ (n : ℕ). pos n *ℤ x) turned ∙ scaled_at a.n b.n x b.x there.x_is; y = ap (λ (n : ℕ). pos n *ℤ y) turned ∙ scaled_at a.n b.n y b.y there.y_is }) of_other,
-    )
-  where
-    turned : b.n * a.n ≡ a.n * b.n
-    turned = omega arith
-
-    scaled_at : (m n : ℕ) (z p : ℤ) → p ≡ (pos n *ℤ z) → (pos (m * n) *ℤ z) ≡ (pos m *ℤ p)
-    scaled_at m n z p is = identity (times (n_of (m * n)) (number z)) (times (n_of m) (times (n_of n) (number z))) (omega arith) ∙ ap (λ (q : ℤ). pos m *ℤ q) (sym is)
-
--- is the only one
+-- a whole point of both is the only one
 pub touch-only : (one other : Edge) (p q : Point) → MeetSo one other Touch → HasPoint one p.x p.y → HasPoint other p.x p.y → HasPoint one q.x q.y → HasPoint other q.x q.y → p ≡ q
 touch-only one other p q (at, both, alone, end) on other_on on_too other_on_too =
     let (n, some, of_one, of_other) = common-whole one other p.x p.y on other_on in

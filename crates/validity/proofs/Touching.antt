@@ -4,13 +4,12 @@ use Rattle.std.specs.List.{Contains, slice_get}
 use Rattle.std.proofs.lemmas.Option.{get_or_from_slice_get, slice_get_within}
 use Rattle.plane.specs.declared.edge.Edge.{Edge}
 use Rattle.plane.specs.declared.meet.kinds.Meeting.TheVariants.{Touch}
-use Rattle.plane.specs.declared.point.Point.{Point}
 use Rattle.plane.specs.Ends.{edge_between, end_of, start_of}
 use Rattle.plane.specs.Meet.Edges.{IsOf, Meet, RationalPoint}
 use Rattle.plane.specs.Meet.Kinds.{AreSame, IsAt, IsEnd, MeetSo}
 use Rattle.noding.specs.Meeting.{MeetAtEnds}
 use Rattle.overlay.specs.Fill.Filled.{AreDistinct, AreNoded, HaveSameEnds}
-use Rattle.overlay.proofs.UncrossedLemmas.Finer.{times-same}
+use Rattle.overlay.proofs.UncrossedLemmas.Finer.{one-point}
 use Rattle.validity.specs.Meeting.{AllMayMeet}
 use Rattle.validity.proofs.Meetings.{swapped}
 
@@ -20,19 +19,6 @@ same-whole first second x y at there = record {
   x = ap (λ (z : ℤ). pos second.n *ℤ z) at.x_is ∙ swapped second.n first.n x ∙ ap (λ (z : ℤ). pos first.n *ℤ z) (sym there.x_is);
   y = ap (λ (z : ℤ). pos second.n *ℤ z) at.y_is ∙ swapped second.n first.n y ∙ ap (λ (z : ℤ). pos first.n *ℤ z) (sym there.y_is);
 }
-
--- and one point is at one place
-same-place : (point : RationalPoint) (x y a b : ℤ) → IsAt point x y → IsAt point a b → (x ≡ a) × (y ≡ b)
-same-place point x y a b at there = (
-  times-same point.n x a point.positive (sym at.x_is ∙ there.x_is),
-  times-same point.n y b point.positive (sym at.y_is ∙ there.y_is),
-)
-
--- ends at one place are one point
-one-point : (point : RationalPoint) (p q : Point) → IsAt point p.x p.y → IsAt point q.x q.y → p ≡ q
-one-point point p q at there =
-    let (x, y) = same-place point p.x p.y q.x q.y at there in
-    ap₂ (λ (a b : ℤ). (let made : Point = record { x = a; y = b } in made)) x y
 
 module _ (one other : Edge) (apart : ¬ (HaveSameEnds one other)) where
   -- where the one starts and where it ends aren't both ends of the other

@@ -6,9 +6,9 @@ use Rattle.plane.specs.declared.meet.kinds.Meeting.TheVariants.{Touch}
 use Rattle.plane.specs.declared.point.Point.{Point}
 use Rattle.plane.specs.Meet.Kinds.{HasPoint, MeetSo}
 use Rattle.overlay.specs.Contours.Rings.{real_edges, ring_edges}
+use Rattle.overlay.specs.OnePiece.{TouchesIn}
 use Rattle.validity.specs.declared.one_piece.Contact.{Contact}
 use Rattle.validity.specs.declared.one_piece.OwnedEdge.{OwnedEdge}
-use Rattle.validity.specs.OnePiece.{TouchesIn}
 
 abbrev pub edge_of : OwnedEdge → Edge
 edge_of owned = owned.edge

@@ -2,5 +2,4 @@
 pub mod Contacts
 pub mod Given
 pub mod Meeting
-pub mod OnePiece
 pub mod Validity

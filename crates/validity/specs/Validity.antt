@@ -10,6 +10,7 @@ use Rattle.noding.specs.Windings.{winding}
 use Rattle.overlay.specs.Contours.Rings.{real_edges, ring_edges}
 use Rattle.overlay.specs.Fill.Filled.{AreNoded}
 use Rattle.overlay.specs.Nesting.{PolygonWindsOnce}
+use Rattle.overlay.specs.OnePiece.{ComesFree, TouchAlongNoCircle, TouchesIn}
 use Rattle.overlay.specs.Overlay.{polygon_edges}
 use Rattle.validity.specs.declared.fault.Fault.{Fault}
 use Rattle.validity.specs.declared.fault.Fault.TheVariants.{FewPoints, MeetsItself, RingsCross, HolesOutside, PolygonsOverlap, Disconnected}
@@ -17,7 +18,6 @@ use Rattle.validity.specs.declared.unchecked.Unchecked.{Unchecked}
 use Rattle.validity.specs.declared.unchecked.Unchecked.TheVariants.{Lengths, OutOfMemory}
 use Rattle.validity.specs.Given.{directed}
 use Rattle.validity.specs.Meeting.{AllMayMeet, MayNotMeet}
-use Rattle.validity.specs.OnePiece.{ComesFree, TouchAlongNoCircle, TouchesIn}
 
 -- ---- valid polygons
 

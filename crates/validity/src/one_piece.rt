@@ -2,13 +2,13 @@
 
 ghost use Rattle.std.specs.Prelude.{◌≡◌, ◌↔◌, ◌<◌, ◌≤◌, ◌+◌, ◌^◌, [], All, Contains, IfErr, IfOk, MatchBool, MatchOption, OnOk, get_or, length, map};
 ghost use Rattle.forest.specs.Circles.{HasNoCircle, Parts};
+ghost use Rattle.overlay.specs.OnePiece.{ComesFree, TouchAlongNoCircle, TouchesIn};
 ghost use Rattle.overlay.specs.Rings.{HasEnds};
 ghost use Rattle.plane.specs.declared.meet.kinds.Meeting.TheVariants.{Touch};
 ghost use Rattle.plane.specs.Gains.{GainsThese, IsOfSome};
 ghost use Rattle.plane.specs.Meet.Kinds.{HasPoint, MeetSo};
 ghost use Rattle.validity.specs.Contacts.{AreContacts, AreOwned, AreTogether, GoesOn, IsApartFromLast, IsContactAt, IsWithLast, IsContactOf, IsGraphOf, IsOwnedBy, edge_of};
 ghost use Rattle.validity.specs.Given.{rings_at};
-ghost use Rattle.validity.specs.OnePiece.{ComesFree, TouchAlongNoCircle, TouchesIn};
 ghost use Rattle.validity.specs.declared.unchecked.Unchecked.TheVariants.{OutOfMemory};
 
 use crate::unchecked::Unchecked;

@@ -4,11 +4,11 @@ ghost use Rattle.std.specs.Prelude.{◌≡◌, ◌↔◌, ◌<◌, [], All, Err,
 ghost use Rattle.std.specs.List.{flat_map};
 ghost use Rattle.overlay.specs.Contours.Rings.{real_edges, ring_edges};
 ghost use Rattle.overlay.specs.Nesting.{PolygonWindsOnce};
+ghost use Rattle.overlay.specs.OnePiece.{ComesFree, TouchAlongNoCircle, TouchesIn};
 ghost use Rattle.overlay.specs.Overlay.{polygon_edges};
 ghost use Rattle.overlay.specs.Rings.{HasEnds, edges_of};
 ghost use Rattle.validity.specs.Given.{HasPolygons, directed, polygons_of, rings_at};
 ghost use Rattle.validity.specs.Meeting.{AllMayMeet};
-ghost use Rattle.validity.specs.OnePiece.{ComesFree, TouchAlongNoCircle, TouchesIn};
 ghost use Rattle.validity.specs.Validity.{IsFault, IsSimple, IsValid, WindOnce, WindOtherwise};
 ghost use Rattle.validity.specs.declared.unchecked.Unchecked.TheVariants.{Lengths, OutOfMemory};
 

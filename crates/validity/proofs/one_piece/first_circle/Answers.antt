@@ -1,10 +1,10 @@
 use Rattle.std.proofs.Common.{◌∙◌, ◌<◌, ℕ, List, ap, get_or, length, subst, sym, arith}
 use Rattle.std.proofs.lemmas.List.Elements.{Contains-get_or}
 use Rattle.forest.specs.Circles.{HasNoCircle, Parts}
+use Rattle.overlay.specs.OnePiece.{ComesFree, TouchesIn}
 use Rattle.overlay.proofs.EachRing.{rings-size}
 use Rattle.validity.specs.Contacts.{AreContacts}
 use Rattle.validity.specs.Given.{rings_at}
-use Rattle.validity.specs.OnePiece.{ComesFree, TouchesIn}
 use Rattle.validity.specs.declared.one_piece.Contact.{Contact}
 use Rattle.validity.proofs.Circles.{circle-none, circle-some}
 use Rattle.validity.proofs.Framed.{none-is, some-is}

@@ -2,11 +2,11 @@ use Rattle.std.proofs.Common.{◌∙◌, [], ℕ, List, ap₂, get_or, subst}
 use Rattle.std.specs.Option.{MatchOption}
 use Rattle.std.proofs.lemmas.Bool.{MatchBool-at_true}
 use Rattle.plane.specs.declared.point.Point.{Point}
+use Rattle.overlay.specs.OnePiece.{ComesFree, TouchAlongNoCircle, TouchesIn}
 use Rattle.overlay.specs.Rings.{rings_of}
 use Rattle.overlay.proofs.Callers.{rings-joined}
 use Rattle.tiles.proofs.InPlace.{HasEnds-joined}
 use Rattle.validity.specs.Given.{directed, polygons_of}
-use Rattle.validity.specs.OnePiece.{ComesFree, TouchAlongNoCircle, TouchesIn}
 use Rattle.validity.specs.declared.one_piece.Contact.{Contact}
 use Rattle.validity.proofs.Alone.{alone-free}
 use Rattle.validity.proofs.validity.circle_in.Goals as goal

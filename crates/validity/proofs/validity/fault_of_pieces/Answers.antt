@@ -3,9 +3,9 @@ use Rattle.std.specs.List.{All}
 use Rattle.std.proofs.lemmas.List.{take_all}
 use Rattle.std.proofs.lemmas.List.Elements.{All-more}
 use Rattle.plane.specs.declared.point.Point.{Point}
+use Rattle.overlay.specs.OnePiece.{TouchAlongNoCircle}
 use Rattle.tiles.proofs.JoinLists.{length-lists_of}
 use Rattle.validity.specs.Given.{directed, polygons_of, rings_at}
-use Rattle.validity.specs.OnePiece.{TouchAlongNoCircle}
 use Rattle.validity.proofs.Framed.{none-is, some-is}
 use Rattle.validity.proofs.validity.fault_of_pieces.Goals as goal
 

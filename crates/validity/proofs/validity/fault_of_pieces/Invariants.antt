@@ -1,7 +1,7 @@
 use Rattle.std.proofs.Common.{take}
 use Rattle.std.specs.List.{All}
+use Rattle.overlay.specs.OnePiece.{TouchAlongNoCircle}
 use Rattle.validity.specs.Given.{directed, polygons_of}
-use Rattle.validity.specs.OnePiece.{TouchAlongNoCircle}
 use Rattle.validity.proofs.validity.fault_of_pieces.Given as goal
 
 -- the rings of the polygons before this one touch along no circle
