@@ -17,6 +17,7 @@ use Rattle.overlay.specs.Contours.Outlines.{AreOutlines, outline}
 use Rattle.overlay.specs.Contours.Rings.{AreContours, real_edges, ring_edges}
 use Rattle.overlay.specs.Fill.Rules.{is_result}
 use Rattle.overlay.specs.Nesting.{PolygonWindsOnce}
+use Rattle.overlay.specs.OnePiece.{ShareAlongNoCircle}
 use Rattle.overlay.specs.Overlay.{polygon_edges}
 use Rattle.overlay.specs.Polygons.{HasSignedArea, IsPolygon, rings_of}
 use Rattle.overlay.proofs.AreaLemmas.Rings.{boundary-signed, outlines-signed}
@@ -28,6 +29,7 @@ use Rattle.overlay.proofs.GroupingLemmas.Grouped.{map-joined}
 use Rattle.overlay.proofs.GroupingLemmas.Outlined.{outlines-run, polygons-outlined}
 use Rattle.overlay.proofs.OverlayLemmas.{exact-real, outlines-each}
 use Rattle.overlay.proofs.WindsLemmas.Areas.{polygons-area}
+use Rattle.overlay.proofs.WindsLemmas.Pieced.{pieces-each}
 use Rattle.offset.specs.Faults.{IsPointFault, IsRawFault}
 use Rattle.offset.specs.Minkowski.{IsAround, IsErosion, IsErosionFault, IsGrown, IsMinkowski, IsShrunk, IsSumFault, IsWound}
 use Rattle.offset.specs.Lines.{AreGrownLines, IsOfPaths, raw_of_paths}
@@ -43,8 +45,8 @@ use Rattle.offset.specs.declared.fault.MinkowskiFault.{MinkowskiFault}
 use Rattle.offset.specs.declared.fault.MinkowskiFault.TheVariants.{Lengths, Shape, Range, OutOfMemory}
 
 -- Polygons of edges that bound what is inside of others.
-pub polygons-wound : (rule : FillRule) (raw edges : List Edge) (whole : List (List (List Point))) → BoundsResult rule Union raw [] edges → All IsPolygon whole → AreContours edges (rings_of whole) → All PolygonWindsOnce whole → IsWound rule raw (map (λ polygon. map outline polygon) whole)
-polygons-wound rule raw edges whole bounds directed are each =
+pub polygons-wound : (rule : FillRule) (raw edges : List Edge) (whole : List (List (List Point))) → BoundsResult rule Union raw [] edges → All IsPolygon whole → AreContours edges (rings_of whole) → All PolygonWindsOnce whole → All ShareAlongNoCircle whole → IsWound rule raw (map (λ polygon. map outline polygon) whole)
+polygons-wound rule raw edges whole bounds directed are each share =
     let outlines = subst (AreOutlines edges) (sym (map-joined outline whole)) (outlines-wind edges (rings_of whole) are) in
     let polygons = map (λ polygon. map outline polygon) whole in
     let boundary = rings-bound rule Union raw [] edges (rings_of whole) bounds are in
@@ -58,6 +60,7 @@ polygons-wound rule raw edges whole bounds directed are each =
       areas = subst (All HasSignedArea) (sym (map-joined outline whole)) (outlines-signed (rings_of whole) alike (boundary-signed rule Union raw [] (rings_of whole) boundary));
       each_once = outlines-each whole each;
       each_area = polygons-area whole directed are.each boundary.bounds.noded boundary.bounds.distinct boundary.bounds.two_ends each;
+      one_piece = pieces-each whole boundary.bounds.noded boundary.bounds.distinct share;
       everywhere = everywhere;
       once = winds-once rule Union raw [] (polygon_edges polygons) everywhere;
       exact = λ point exactly. winds-exactly rule Union raw [] (polygon_edges polygons) everywhere point (subst (λ (edges : List Edge). All (IsExactAt edges point) edges) (sym (append-nil raw)) exactly);
@@ -106,6 +109,7 @@ around-of region raw polygons wound winds = record {
   areas = wound.areas;
   each_once = wound.each_once;
   each_area = wound.each_area;
+  one_piece = wound.one_piece;
   once = wound.once;
   exact = λ point off exactly. ⊎_elim
       (λ (found : region point × (pos 0 <ℤ winding raw point)). inl (found.0, wound.exact point exactly ∙ one (winding raw point) found.1))
@@ -145,6 +149,7 @@ erosion-of corners convex rings bounds outside polygons wound = record {
   areas = wound.areas;
   each_once = wound.each_once;
   each_area = wound.each_area;
+  one_piece = wound.one_piece;
   once = wound.once;
   exact = λ point off exactly. ⊎_elim
       (λ (found : IsOfErosion (flat_map ring_edges rings) corners point × (winding (raw_inside corners rings) point ≡ negsuc 0)). inl (found.0, wound.exact point exactly ∙ one (winding (raw_inside corners rings) point) found.1))

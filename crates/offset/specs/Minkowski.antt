@@ -13,6 +13,7 @@ use Rattle.overlay.specs.Areas.{twice_area_of}
 use Rattle.overlay.specs.Boundary.{IsBoundary, WindsAsBroken, result_at}
 use Rattle.overlay.specs.Contours.Rings.{IsRing, real_edges, ring_edges}
 use Rattle.overlay.specs.Nesting.{PolygonWindsOnce}
+use Rattle.overlay.specs.OnePiece.{TouchAlongNoCircle}
 use Rattle.overlay.specs.Overlay.{polygon_edges}
 use Rattle.overlay.specs.Polygons.{HasSignedArea, IsPolygon, rings_of}
 use Rattle.offset.specs.Raw.{GoesThrough, IsIn32Bits, IsPointIn32Bits, raw_edges, raw_inside}
@@ -23,9 +24,9 @@ use Rattle.offset.specs.declared.fault.MinkowskiFault.TheVariants.{Lengths, Shap
 
 -- Polygons around what is inside of closed edges, by the rule. Their rings visit no point twice, and have three points at least;
 -- outer ones run counterclockwise, with an area above 0, and holes clockwise, with one below 0. The rings of each polygon together
--- wind once around a point or not at all, and have an area above 0. At every point all polygons wind once where it is inside of the
--- pieces that the edges are broken into, and else not at all: so as with the edges, if each edge isn't moved among all, or runs
--- along an axis, or isn't near the point.
+-- wind once around a point or not at all, have an area above 0, and touch along no circle: so the inside of each is one piece. At
+-- every point all polygons wind once where it is inside of the pieces that the edges are broken into, and else not at all: so as
+-- with the edges, if each edge isn't moved among all, or runs along an axis, or isn't near the point.
 pub record IsWound (rule : FillRule) (edges : List Edge) (polygons : List (List (List Point))) : Type 0 where
   pub each : All IsRing (rings_of polygons)
   pub three_points : All (λ ring. 3 ≤ length ring) (rings_of polygons)
@@ -33,15 +34,16 @@ pub record IsWound (rule : FillRule) (edges : List Edge) (polygons : List (List 
   pub areas : All HasSignedArea (rings_of polygons)
   pub each_once : All PolygonWindsOnce polygons
   pub each_area : All (λ polygon. pos 0 <ℤ twice_area_of polygon) polygons
+  pub one_piece : All TouchAlongNoCircle polygons
   pub everywhere : WindsAsBroken rule Union edges [] (polygon_edges polygons)
   pub once : (point : RationalPoint) → (winding (polygon_edges polygons) point ≡ pos 0) ⊎ (winding (polygon_edges polygons) point ≡ pos 1)
   pub exact : (point : RationalPoint) → All (IsExactAt edges point) edges → winding (polygon_edges polygons) point ≡ result_at rule Union edges [] point
 
 -- Polygons around the points of a region. Their rings visit no point twice, and have three points at least; outer ones run
 -- counterclockwise, with an area above 0, and holes clockwise, with one below 0. The rings of each polygon together wind once
--- around a point or not at all, and have an area above 0. All polygons do, too: they wind once around each point of the region, and
--- not at all around any other, if each edge of the raw curve isn't moved among all of it, or runs along an axis, or isn't near the
--- point, and none goes through it.
+-- around a point or not at all, have an area above 0, and touch along no circle: so the inside of each is one piece. All polygons
+-- wind once or not at all, too: once around each point of the region, and not at all around any other, if each edge of the raw curve
+-- isn't moved among all of it, or runs along an axis, or isn't near the point, and none goes through it.
 pub record IsAround (region : RationalPoint → Type 0) (raw : List Edge) (polygons : List (List (List Point))) : Type 0 where
   pub each : All IsRing (rings_of polygons)
   pub three_points : All (λ ring. 3 ≤ length ring) (rings_of polygons)
@@ -49,6 +51,7 @@ pub record IsAround (region : RationalPoint → Type 0) (raw : List Edge) (polyg
   pub areas : All HasSignedArea (rings_of polygons)
   pub each_once : All PolygonWindsOnce polygons
   pub each_area : All (λ polygon. pos 0 <ℤ twice_area_of polygon) polygons
+  pub one_piece : All TouchAlongNoCircle polygons
   pub once : (point : RationalPoint) → (winding (polygon_edges polygons) point ≡ pos 0) ⊎ (winding (polygon_edges polygons) point ≡ pos 1)
   pub exact : (point : RationalPoint) → All (λ edge. ¬ (GoesThrough edge point)) raw → All (IsExactAt raw point) raw
       → (region point × (winding (polygon_edges polygons) point ≡ pos 1))

@@ -47,9 +47,11 @@ pub use Rattle.overlay.proofs.WindsLemmas.Polygons.{KeepTogether, each-once}
 -- So it is where the edges of each ring have the polygon as often on their left, and each hole is at home where the ring just below
 -- its first edge is.
 pub use Rattle.overlay.proofs.WindsLemmas.Homes.{AreAtHome, home-once, left-own}
--- So polygons of rings that keep sides wind once around a point or not at all, each by itself, where each hole is of the polygon
--- just below it; and so do those of their outlines.
-pub use Rattle.overlay.proofs.WindsLemmas.Nested.{nest-once, outlined-once}
+-- So polygons of rings that keep sides wind once around a point or not at all, each by itself, and their rings share points along no
+-- circle, where each hole is of the polygon just below it. Those of their outlines wind so, too, and touch along no circle.
+pub use Rattle.overlay.proofs.NestedLemmas.{nest-once}
+pub use Rattle.overlay.proofs.WindsLemmas.Nested.{outlined-once}
+pub use Rattle.overlay.proofs.WindsLemmas.Pieced.{fewer-touches, pieces-each, pieces-outlined, touches-shared}
 -- Of the polygons of an overlay and edges along an axis that were among those given, no two cross at a point with fractions: so an
 -- overlay of these polygons with such edges is exact at every point, by `exact-everywhere`.
 pub use Rattle.overlay.proofs.UncrossedLemmas.Crossing.{none-cross}

@@ -25,15 +25,18 @@ use Rattle.overlay.proofs.BoundaryLemmas.Bounding.{rings-bound, winds-exactly, w
 use Rattle.overlay.proofs.BoundaryLemmas.Corners.{outlines-hold}
 use Rattle.overlay.proofs.ContourLemmas.Callers.{outlines-wind}
 use Rattle.overlay.specs.Overlay.{IsOverlay, polygon_edges}
+use Rattle.overlay.proofs.NestedLemmas.{nest-once}
 use Rattle.overlay.proofs.GroupingLemmas.Corners.{rings-corners}
 use Rattle.overlay.proofs.GroupingLemmas.Grouped.{map-joined}
 use Rattle.overlay.proofs.GroupingLemmas.Outlined.{outlines-run, polygons-outlined}
 use Rattle.overlay.specs.Nesting.{AreNested, NestOnce, PolygonWindsOnce}
+use Rattle.overlay.specs.OnePiece.{ShareAlongNoCircle}
 use Rattle.overlay.specs.Rings.{has_two_ends, real_edges}
 use Rattle.overlay.specs.Sides.{AreBorders, KeepSides}
 use Rattle.overlay.proofs.RingLemmas.{winding-real}
 use Rattle.overlay.proofs.WindsLemmas.Areas.{polygons-area}
-use Rattle.overlay.proofs.WindsLemmas.Nested.{nest-once, outlined-once}
+use Rattle.overlay.proofs.WindsLemmas.Nested.{outlined-once}
+use Rattle.overlay.proofs.WindsLemmas.Pieced.{pieces-each}
 use Rattle.overlay.proofs.WindsLemmas.Rings.{boundary-once, outlines-once}
 
 -- edges that bound a result bound something
@@ -108,9 +111,9 @@ outlines-each (polygon ∷ others) each =
     All-cons PolygonWindsOnce (map outline polygon) (map (λ p. map outline p) others) (outlined-once polygon (All-head PolygonWindsOnce polygon others each))
     (outlines-each others (All-tail PolygonWindsOnce polygon others each))
 
-pub polygons-overlay : (rule : FillRule) (operation : Operation) (subject clip edges : List Edge) (whole : List (List (List Point))) → BoundsResult rule operation (real_edges subject) (real_edges clip) edges → All IsPolygon whole → AreContours edges (rings_of whole) → All PolygonWindsOnce whole
+pub polygons-overlay : (rule : FillRule) (operation : Operation) (subject clip edges : List Edge) (whole : List (List (List Point))) → BoundsResult rule operation (real_edges subject) (real_edges clip) edges → All IsPolygon whole → AreContours edges (rings_of whole) → All PolygonWindsOnce whole → All ShareAlongNoCircle whole
     → IsOverlay rule operation subject clip (map (λ polygon. map outline polygon) whole)
-polygons-overlay rule operation subject clip edges whole bounds directed are each =
+polygons-overlay rule operation subject clip edges whole bounds directed are each share =
     let outlines = subst (AreOutlines edges) (sym (map-joined outline whole)) (outlines-wind edges (rings_of whole) are) in
     let polygons = map (λ polygon. map outline polygon) whole in
     let boundary = rings-bound rule operation (real_edges subject) (real_edges clip) edges (rings_of whole) bounds are in
@@ -125,6 +128,7 @@ polygons-overlay rule operation subject clip edges whole bounds directed are eac
       winds = subst (All WindsOnce) (sym (map-joined outline whole)) (outlines-once (rings_of whole) alike (boundary-once rule operation (real_edges subject) (real_edges clip) (rings_of whole) boundary));
       each_once = outlines-each whole each;
       each_area = polygons-area whole directed are.each boundary.bounds.noded boundary.bounds.distinct boundary.bounds.two_ends each;
+      one_piece = pieces-each whole boundary.bounds.noded boundary.bounds.distinct share;
       everywhere = everywhere;
       once = winds-once rule operation (real_edges subject) (real_edges clip) (polygon_edges polygons) everywhere;
       exact = exact-real subject clip rule operation (polygon_edges polygons) everywhere;

@@ -64,7 +64,8 @@ pub record IsBoundary (rule : FillRule) (operation : Operation) (subject clip : 
   pub bounds : BoundsResult rule operation subject clip (flat_map ring_edges rings)
 
 -- Rings that bound the result stand behind the points and behind where rings stopped among these, and if there are any, some edge
--- of theirs isn't vertical. Polygons of them wind once each, where holes are of the polygon just below them.
+-- of theirs isn't vertical. Polygons of them wind once each, and their rings share points along no circle, where holes are of the
+-- polygon just below them.
 abbrev pub AppendsBoundary : FillRule → Operation → List Edge → List Edge → List Point → List Point → List ℕ → List ℕ → Type 0
 AppendsBoundary rule operation subject clip points points' ends ends' =
     (rings : List (List Point)) × IsBoundary rule operation subject clip rings × HasSloped (flat_map ring_edges rings) × NestOnce rings

@@ -1,4 +1,4 @@
--- To which polygon a hole belongs, and how often each polygon winds by itself.
+-- To which polygon a hole belongs, how often each polygon winds by itself, and how its rings share points.
 use Rattle.std.specs.List.{flat_map}
 use Rattle.std.specs.Prelude.{◌≡◌, ◌⊎◌, ℤ, pos, true, false, List, All, Contains, IsPermutation, Option, Some, None}
 use Rattle.plane.specs.declared.edge.Edge.{Edge}
@@ -8,6 +8,7 @@ use Rattle.plane.specs.SweepLine.Heights.{rightwards}
 use Rattle.noding.specs.Windings.{winding}
 use Rattle.overlay.specs.Contours.Rings.{ring_edges}
 use Rattle.overlay.specs.Fill.Counts.{is_lower_on, is_over}
+use Rattle.overlay.specs.OnePiece.{ShareAlongNoCircle}
 use Rattle.overlay.specs.Polygons.{IsPolygon, first_sloped, is_counterclockwise, rings_of}
 
 -- Over the stretch from x to x + 1 the one is just below the other: both are over it, the one is lower, and none of the edges is
@@ -35,9 +36,9 @@ AreNested polygons =
 abbrev pub PolygonWindsOnce : List (List Point) → Type 0
 PolygonWindsOnce polygon = (point : RationalPoint) → (winding (flat_map ring_edges polygon) point ≡ pos 0) ⊎ (winding (flat_map ring_edges polygon) point ≡ pos 1)
 
--- Whatever polygons are made of the rings, each winds once around a point or not at all, where each hole is of the polygon just
--- below it.
+-- Whatever polygons are made of the rings, each winds once around a point or not at all, and its rings share points along no circle,
+-- where each hole is of the polygon just below it.
 abbrev pub NestOnce : List (List Point) → Type 0
 NestOnce rings =
     (polygons : List (List (List Point))) → IsPermutation (rings_of polygons) rings → All IsPolygon polygons → AreNested polygons
-    → All PolygonWindsOnce polygons
+    → All PolygonWindsOnce polygons × All ShareAlongNoCircle polygons

@@ -14,6 +14,7 @@ use Rattle.overlay.specs.Contours.Outlines.{AreOutlines, outline}
 use Rattle.overlay.specs.Contours.Rings.{AreContours, ring_edges}
 use Rattle.overlay.specs.Fill.Filled.{IsEndOfSloped, IsFilled}
 use Rattle.overlay.specs.Nesting.{NestOnce, PolygonWindsOnce}
+use Rattle.overlay.specs.OnePiece.{ShareAlongNoCircle}
 use Rattle.overlay.specs.Overlay.{IsOverlay}
 use Rattle.overlay.specs.Polygons.{BoundsSome, IsPolygon, rings_of}
 use Rattle.overlay.specs.Rings.{real_edges}
@@ -60,13 +61,13 @@ module _ (rule : FillRule) (operation : Operation) (subject clip broken broken_c
       bounds-some rule operation (real_edges subject) (real_edges clip) (flat_map ring_edges rings) rings-boundary.bounds
       (HasSloped-permuted (flat_map ring_edges rings) edges contours.all (HasSloped-next edges filled.vertical))
 
-  module _ (whole : List (List (List Point))) (directed : All IsPolygon whole) (same : AreContours (flat_map ring_edges rings) (rings_of whole)) (each : All PolygonWindsOnce whole) where
+  module _ (whole : List (List (List Point))) (directed : All IsPolygon whole) (same : AreContours (flat_map ring_edges rings) (rings_of whole)) (each : All PolygonWindsOnce whole) (share : All ShareAlongNoCircle whole) where
     abbrev outlined : List (List (List Point))
     outlined = map (λ polygon. map outline polygon) whole
 
     -- polygons of them are an overlay
     pub cut-overlay : IsOverlay rule operation subject clip outlined
-    cut-overlay = polygons-overlay rule operation subject clip (flat_map ring_edges rings) whole rings-boundary.bounds directed same each
+    cut-overlay = polygons-overlay rule operation subject clip (flat_map ring_edges rings) whole rings-boundary.bounds directed same each share
 
     -- each point of which is an end of an edge that isn't vertical
     pub cut-sloped : HasSlopedEnds edges outlined

@@ -148,6 +148,7 @@ module _ (window : Window) (rule : FillRule) (operation : Operation) (subject cl
     };
     each_once = is_cut.each_once;
     each_area = is_cut.each_area;
+    one_piece = is_cut.one_piece;
     within = polygons-within window bounds tile has none-outside;
     exact = λ point within counts.
         same-within point within

@@ -13,6 +13,7 @@ use Rattle.overlay.specs.Boundary.{BoundsResult, result_at}
 use Rattle.overlay.specs.Contours.Rings.{ring_edges}
 use Rattle.overlay.specs.Fill.Filled.{AreDistinct, AreNoded, IsEndOfSloped}
 use Rattle.overlay.specs.Nesting.{PolygonWindsOnce}
+use Rattle.overlay.specs.OnePiece.{TouchAlongNoCircle}
 use Rattle.overlay.specs.Overlay.{polygon_edges}
 use Rattle.overlay.specs.Polygons.{rings_of}
 use Rattle.overlay.specs.Rings.{real_edges}
@@ -42,6 +43,8 @@ pub record IsTile (window : Window) (rule : FillRule) (operation : Operation) (s
   -- each polygon by itself winds once around a point or not at all, and has an area above 0
   pub each_once : All PolygonWindsOnce polygons
   pub each_area : All (λ polygon. pos 0 <ℤ twice_area_of polygon) polygons
+  -- its rings touch along no circle: so the inside of each is one piece
+  pub one_piece : All TouchAlongNoCircle polygons
   -- all points of the polygons lie in the window or on its sides
   pub within : All (λ ring. All (IsWithin window) ring) (rings_of polygons)
   -- in the window as the result, if each edge given runs along an axis or isn't near the point

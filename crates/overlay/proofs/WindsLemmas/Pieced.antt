@@ -1,5 +1,5 @@
 -- Where the rings of a polygon share points along no circle, their outlines touch along no circle: so its inside is one piece.
-use Rattle.std.proofs.Common.{◌≢◌, ◌<◌, ◌++◌, inl, inr, ℕ, ℤ, pos, List, [], ◌∷◌, get_or, length, map, refl, subst, sym, arith}
+use Rattle.std.proofs.Common.{◌≢◌, ◌<◌, inl, inr, ℕ, ℤ, pos, List, [], ◌∷◌, get_or, length, map, refl, subst, sym, arith}
 use Rattle.std.specs.List.{All, Contains, flat_map}
 use Rattle.std.proofs.lemmas.Int.{by_lt_z, ints}
 use Rattle.std.proofs.lemmas.List.{get_or-map, length-map}

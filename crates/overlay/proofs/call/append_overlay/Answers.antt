@@ -51,8 +51,9 @@ returns-clause-ok g c =
     on_ok_weaker c.append_polygons.result (λ (found : (whole : List (List (List Point))) × All IsPolygon whole × AreContours (edges_in points ends) (all_rings whole)
     × IsPermutation (all_rings whole) (rings_in points 0 ends) × AreNested whole
     × AreAppended (map (λ polygon. map outline polygon) whole) out.points.items new.points.items out.ring_ends.items new.ring_ends.items out.polygon_ends.items new.polygon_ends.items).
-    let (whole, directed, contours, moved, nested, appends) = found in (
+    let (whole, directed, contours, moved, nested, appends) = found in
+    let (each, share) = nest' whole moved directed nested in (
       map (λ polygon. map outline polygon) whole,
-      polygons-overlay rule operation subject clip (edges_in points ends) whole bounds directed contours (nest' whole moved directed nested),
+      polygons-overlay rule operation subject clip (edges_in points ends) whole bounds directed contours each share,
       appends,
     )) c.append_polygons.ensures.ok

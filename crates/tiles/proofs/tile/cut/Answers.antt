@@ -79,10 +79,10 @@ returns-clause-ok g c =
     × AreAppended (map (λ polygon. map outline polygon) whole) out.points.items new.points.items out.ring_ends.items new.ring_ends.items out.polygon_ends.items new.polygon_ends.items).
     let (whole, directed, contours_too, moved, nested, appends) = found in
     let nest : NestOnce (rings_in points 0 ends) = subst NestOnce (sym same) (rings-nest NonZero Intersection kept (ring_edges (border window)) broken broken_clip edges rings broken_real filled contours sides) in
-    let each = nest whole moved directed nested in
+    let (each, share) = nest whole moved directed nested in
     let same_edges = subst (λ (all : List (List Point)). AreContours (flat_map ring_edges all) (all_rings whole)) same contours_too in (
       map (λ polygon. map outline polygon) whole,
-      cut-overlay NonZero Intersection kept (ring_edges (border window)) broken broken_clip edges rings broken_real filled contours whole directed same_edges each,
-      (edges, cut-sloped NonZero Intersection kept (ring_edges (border window)) broken broken_clip edges rings broken_real filled contours whole directed same_edges each),
+      cut-overlay NonZero Intersection kept (ring_edges (border window)) broken broken_clip edges rings broken_real filled contours whole directed same_edges each share,
+      (edges, cut-sloped NonZero Intersection kept (ring_edges (border window)) broken broken_clip edges rings broken_real filled contours whole directed same_edges each share),
       appends,
     )) c.append_polygons.ensures.ok
