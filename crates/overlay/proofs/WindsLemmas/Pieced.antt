@@ -29,7 +29,7 @@ use Rattle.overlay.proofs.UncrossedLemmas.Finer.{at-finer, common-whole, one-poi
 
 -- ---- fewer touches
 
--- Where touches go along no circle, no others that are some of them do.
+-- Where touches go along no circle, some of them go along none, either.
 pub fewer-touches : (more few : ℕ → Point → Type 0) → ((place : ℕ) (point : Point) → few place point → more place point) → AlongNoCircle more → AlongNoCircle few
 fewer-touches more few among free place point touch =
     let comes = free place point (among place point touch) in record {
@@ -102,6 +102,7 @@ module _ (whole : List (List Point)) (noded : AreNoded (flat_map ring_edges whol
 
 -- ---- many polygons
 
+-- They don't have the same ends.
 abbrev Differ : Edge → Edge → Type 0
 Differ one other = ¬ (HaveSameEnds one other)
 
