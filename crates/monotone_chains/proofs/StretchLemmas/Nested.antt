@@ -16,6 +16,7 @@ use Rattle.overlay.specs.Polygons.{rings_of}
 use Rattle.overlay.proofs.GroupingLemmas.Bags.{Contains-in_flat_map, IsPermutation-flat_map}
 use Rattle.monotone_chains.specs.Stretches.{AreStretches, IsWidened, chord}
 use Rattle.monotone_chains.proofs.StretchLemmas.NestedHoles.{AreEdgesOf, HaveHoles, nested-narrowed, polygons-narrowed, polygons-wind}
+use Rattle.monotone_chains.proofs.StretchLemmas.NestedPieces.{pieces-share}
 use Rattle.monotone_chains.proofs.StretchLemmas.NestedZips.{zip-cut, zip-permuted}
 use Rattle.monotone_chains.proofs.StretchLemmas.Noded.{noded-widened}
 use Rattle.monotone_chains.proofs.StretchLemmas.Permuted.{IsFilled-permutation}
@@ -44,7 +45,9 @@ nest-widened rule operation subject clip stretches clip_stretches cut broken bro
     let wide_there : AreEdgesOf (flat_map pieces ways) (rings_of polygons) =
     λ ring held piece inside. subst (λ (list : List Edge). Contains list piece) is (Contains-in_flat_map ring_edges (rings_of polygons) ring piece held inside) in
     let wide_nested = subst (λ (list : List Edge). All (λ polygon. HaveHoles list polygon polygon) polygons) is nested in
-    polygons-wind all cut.each cut.clear turns placed bounds.noded bounds.distinct ways go noded chords polygons there alike.zip
-    (nest chords same_rings
+    let are_once = nest chords same_rings
     (polygons-narrowed all cut.each cut.clear turns placed bounds.noded bounds.distinct ways go noded chords polygons there wide_there alike.zip directed)
-    (nested-narrowed all cut.each cut.clear turns placed bounds.noded bounds.distinct ways go noded chords polygons there wide_there alike.zip wide_nested))
+    (nested-narrowed all cut.each cut.clear turns placed bounds.noded bounds.distinct ways go noded chords polygons there wide_there alike.zip wide_nested) in (
+      polygons-wind all cut.each cut.clear turns placed bounds.noded bounds.distinct ways go noded chords polygons there alike.zip are_once.0,
+      pieces-share all cut.each cut.clear turns bounds.vertical placed chords polygons there bounds.distinct alike.zip are_once.1,
+    )
