@@ -42,8 +42,8 @@ pub record IsWound (rule : FillRule) (edges : List Edge) (polygons : List (List 
 -- Polygons around the points of a region. Their rings visit no point twice, and have three points at least; outer ones run
 -- counterclockwise, with an area above 0, and holes clockwise, with one below 0. The rings of each polygon together wind once
 -- around a point or not at all, have an area above 0, and touch along no circle: so the inside of each is one piece. All polygons
--- wind once or not at all, too: once around each point of the region, and not at all around any other, if each edge of the raw curve
--- isn't moved among all of it, or runs along an axis, or isn't near the point, and none goes through it.
+-- wind once or not at all, too: once around each point of the region, and not at all around any other, if each edge of the raw
+-- curve isn't moved among all of it, or runs along an axis, or isn't near the point, and none goes through it.
 pub record IsAround (region : RationalPoint → Type 0) (raw : List Edge) (polygons : List (List (List Point))) : Type 0 where
   pub each : All IsRing (rings_of polygons)
   pub three_points : All (λ ring. 3 ≤ length ring) (rings_of polygons)

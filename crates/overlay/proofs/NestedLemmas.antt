@@ -1,5 +1,5 @@
--- Whatever polygons are made of rings that keep sides, each winds once around a point or not at all, and its rings share points along
--- no circle, where each hole is of the polygon just below it.
+-- Whatever polygons are made of rings that keep sides, each winds once around a point or not at all, and its rings share points
+-- along no circle, where each hole is of the polygon just below it.
 use Rattle.std.proofs.Common.{◌≢◌, List, [], ◌∷◌, subst}
 use Rattle.std.specs.List.{All, Contains, flat_map}
 use Rattle.std.specs.List.Sorted.{IsPermutation}

@@ -36,8 +36,8 @@ AreNested polygons =
 abbrev pub PolygonWindsOnce : List (List Point) → Type 0
 PolygonWindsOnce polygon = (point : RationalPoint) → (winding (flat_map ring_edges polygon) point ≡ pos 0) ⊎ (winding (flat_map ring_edges polygon) point ≡ pos 1)
 
--- Whatever polygons are made of the rings, each winds once around a point or not at all, and its rings share points along no circle,
--- where each hole is of the polygon just below it.
+-- Whatever polygons are made of the rings, each winds once around a point or not at all, and its rings share points along no
+-- circle, where each hole is of the polygon just below it.
 abbrev pub NestOnce : List (List Point) → Type 0
 NestOnce rings =
     (polygons : List (List (List Point))) → IsPermutation (rings_of polygons) rings → All IsPolygon polygons → AreNested polygons

@@ -41,8 +41,8 @@ pub record SharesIn (rings : List (List Point)) (place : ℕ) (point : Point) : 
 abbrev pub IsThere : ℕ → Point → ℕ → Point → Type 0
 IsThere place point one at = (one ≡ place) × (at ≡ point)
 
--- Once the ring is cut free in the point, it isn't held by other touches to those that touch it there: rings fall into two sides, so
--- that those that touch it there are on the other side than it, and any others that touch in one point are on one side.
+-- Once the ring is cut free in the point, it isn't held by other touches to those that touch it there: rings fall into two sides,
+-- so that those that touch it there are on the other side than it, and any others that touch in one point are on one side.
 pub record ComesFreeBy (Touches : ℕ → Point → Type 0) (place : ℕ) (point : Point) : Type 0 where
   pub side : ℕ → Bool
   pub alike : (one other : ℕ) (at : Point) → Touches one at → Touches other at → ¬ (IsThere place point one at) → ¬ (IsThere place point other at) → side one ≡ side other

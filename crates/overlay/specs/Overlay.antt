@@ -28,8 +28,8 @@ polygon_edges polygons = flat_map ring_edges (rings_of polygons)
 -- of the pieces that the edges of subject and clip are broken into, those from a point to itself left out. So they wind once around
 -- a point or not at all, and as the result of subject and clip if each edge given isn't moved among all, or runs along an axis, or
 -- isn't near the point. Where no two edges cross at a point with fractions none is moved. Their areas add up to that of the region,
--- which any closed edges tell that wind so (`same-area`). Each point of the polygons is an end of an edge given, or what two of them
--- cross at, rounded.
+-- which any closed edges tell that wind so (`same-area`). Each point of the polygons is an end of an edge given, or what two of
+-- them cross at, rounded.
 pub record IsOverlay (rule : FillRule) (operation : Operation) (subject clip : List Edge) (polygons : List (List (List Point))) : Type 0 where
   pub each : All IsRing (rings_of polygons)
   pub three_points : All (λ ring. 3 ≤ length ring) (rings_of polygons)

@@ -23,7 +23,8 @@ use Rattle.monotone_chains.proofs.StretchLemmas.Placed.{IsPlaced}
 use Rattle.monotone_chains.proofs.StretchLemmas.RingEdges.{length-ring_edges, ring-edge}
 use Rattle.monotone_chains.proofs.StretchLemmas.RingsOnce.{ways-share}
 
--- where each point shared by rings of the one is shared by those of the other at the same places, circles of the one are of the other
+-- where each point shared by rings of the one is shared by those of the other at the same places, circles of the one are those of
+-- the other
 fewer-shared : (rings wides : List (List Point)) → ((place : ℕ) (point : Point) → SharesIn wides place point → SharesIn rings place point) → ShareAlongNoCircle rings → ShareAlongNoCircle wides
 fewer-shared rings wides fewer none place point shares =
     let free = none place point (fewer place point shares) in record {
