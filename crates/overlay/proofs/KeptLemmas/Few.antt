@@ -1,14 +1,14 @@
 -- The sweep of few pieces: what is below one that begins, counted over those that have begun.
-use Rattle.std.proofs.Common.{◌≡◌, ◌<◌, ◌≤◌, ◌+◌, ◌-◌, ◌^◌, ◌++◌, [], ◌∷◌, Bool, true, false, cond, ◌&&◌, ℕ, ℤ, pos, ◌+ℤ◌, ◌≤ℤ◌, List, length, take, drop, get_or, refl, ap, ap₂, sym, subst, ◌∙◌, arith, length-drop, append_assoc}
+use Rattle.std.proofs.Common.{◌≡◌, ◌<◌, ◌≤◌, ◌+◌, ◌-◌, ◌^◌, ◌++◌, [], Bool, true, false, cond, ◌&&◌, ℕ, ℤ, pos, ◌+ℤ◌, ◌≤ℤ◌, List, length, take, drop, get_or, refl, ap, ap₂, sym, subst, ◌∙◌, arith, length-drop, append_assoc}
 use Rattle.std.specs.List.{All}
 use Rattle.std.proofs.lemmas.Int.{ints, by_lt_z}
-use Rattle.std.proofs.lemmas.List.{get_or-drop, get_or-take, get_or_default, length-take-le, take-append-drop, take-append-le, take_more}
+use Rattle.std.proofs.lemmas.List.{get_or-drop, get_or-take, get_or_default, length-take-le, take-append-drop, take_more}
 use Rattle.plane.specs.declared.edge.Edge.{Edge}
 use Rattle.plane.specs.declared.point.Point.{Point}
 use Rattle.plane.specs.Ends.{start_of}
 use Rattle.overlay.specs.declared.fill.pieces.Piece.{Piece}
 use Rattle.overlay.specs.Fill.Counts.{Counts, is_over, is_lower_on, kept_edge}
-use Rattle.overlay.specs.Fill.Few.{HaveEnded, LastBeginsAt, counts_upto, is_upto}
+use Rattle.overlay.specs.Fill.Few.{LastBeginsAt, counts_upto, is_upto}
 use Rattle.overlay.specs.Fill.Pieces.{total}
 use Rattle.overlay.specs.Fill.Sweep.{AreFillPieces, Fits, WeighUpto, below_of, is_below_on, kept_of, no_piece, plus}
 use Rattle.overlay.specs.Fill.Turned.{asked}
@@ -16,7 +16,7 @@ use Rattle.overlay.proofs.FillLemmas.Callers.{lower-irrefl}
 use Rattle.overlay.proofs.FillLemmas.Totals.{total-append, total-more, total-none, total-same}
 use Rattle.overlay.proofs.KeptLemmas.Begun.{goes_on, piece_at, x_order}
 use Rattle.overlay.proofs.KeptLemmas.Swept.{kept_of-more}
-use Rattle.overlay.proofs.KeptLemmas.Upto.{later-above, start_at, upto-begun, upto-ended, upto-lower}
+use Rattle.overlay.proofs.KeptLemmas.Upto.{later-above, start_at, upto-begun, upto-lower}
 
 no_less : (a b c : ℤ) → a ≡ pos 0 → b ≡ c → (a +ℤ b) ≡ c
 no_less a b c none is = omega (arith, ints, none, is)
@@ -28,18 +28,6 @@ no_more a b none = omega (arith, ints, none)
 
 counts_of : ℤ → ℤ → Counts
 counts_of a b = record { subject = a; clip = b }
-
--- Those at the front that have ended weigh nothing.
-pub live-counted : (point : Point) (pieces : List Piece) (ended : ℕ) → All (λ p. p.edge.x1 ≤ℤ point.x) (take ended pieces) → counts_upto point (drop ended pieces) ≡ counts_upto point pieces
-unfolding counts_of
-live-counted point pieces ended late = ap₂ counts_of (live (λ p. p.subject)) (live (λ p. p.clip))
-  where
-    live : (weigh : Piece → ℤ) → total (asked (is_upto point) weigh) (drop ended pieces) ≡ total (asked (is_upto point) weigh) pieces
-    live weigh =
-        sym (no_less (total (asked (is_upto point) weigh) (take ended pieces)) (total (asked (is_upto point) weigh) (drop ended pieces)) (total (asked (is_upto point) weigh) (drop ended pieces))
-        (total-none (asked (is_upto point) weigh) (take ended pieces) (λ i d within. let p = get_or (take ended pieces) i d in ap (λ t. cond t (weigh p) (pos 0)) (upto-ended point p.edge (late i d within)))) refl)
-        ∙ sym (total-append (asked (is_upto point) weigh) (take ended pieces) (drop ended pieces))
-        ∙ ap (total (asked (is_upto point) weigh)) (take-append-drop ended pieces)
 
 -- The counts are numbers of 64 bits.
 pub counts-within : (point : Point) (pieces : List Piece) (most : ℕ) → most < 2 ^ 63 → WeighUpto most pieces → Fits (counts_upto point pieces) no_piece
@@ -85,6 +73,15 @@ module _ (point : Point) (pieces : List Piece) (n : ℕ) (d : Piece) (within : n
       let c = within_most.1.from in
       let e = within_most.1.upto in
       record { from = omega (arith, ints, subject, countable, a); below = omega (arith, ints, subject, countable, b); clip_from = omega (arith, ints, clip, countable, c); clip_below = omega (arith, ints, clip, countable, e) }
+
+-- A piece is counted, or is above the point or has ended.
+pub counted-more : (point : Point) (pieces : List Piece) (k : ℕ) → k < length pieces → (counts result : Counts) → counts ≡ counts_upto point (take k pieces)
+    → (is_upto point (piece_at pieces k).edge ≡ true → result ≡ plus counts (piece_at pieces k)) → (is_upto point (piece_at pieces k).edge ≡ false → result ≡ counts) → result ≡ counts_upto point (take (k + 1) pieces)
+counted-more point pieces k within counts result before more same = by (is_upto point (piece_at pieces k).edge) refl
+  where
+    by : (t : Bool) → is_upto point (piece_at pieces k).edge ≡ t → result ≡ counts_upto point (take (k + 1) pieces)
+    by true is = more is ∙ ap (λ (sum : Counts). plus sum (piece_at pieces k)) before ∙ counts-more point pieces k no_piece within is
+    by false is = same is ∙ before ∙ counts-same point pieces k no_piece within is
 
 -- ---- the pieces of a fill
 
@@ -152,14 +149,6 @@ module _ (pieces : List Piece) (fill : AreFillPieces pieces) (k : ℕ) (within :
   pub below-counted : counts_upto start (take k pieces) ≡ below_of pieces g
   unfolding counts_of
   below-counted = ap₂ counts_of (counted (λ p. p.subject)) (counted (λ p. p.clip))
-
-  -- Those that have ended have so where the next one begins.
-  pub ended-more : (ended : ℕ) → HaveEnded start ended (take k pieces) → (more : k + 1 < length pieces) → HaveEnded (start_at pieces fill (k + 1) more) ended (take (k + 1) pieces)
-  ended-more ended (few, late) more = (
-    (let size = begun_size in let size_too = length-take-le (k + 1) pieces (omega (arith, more)) in omega (arith, few, size, size_too)),
-    subst (All (λ p. p.edge.x1 ≤ℤ (piece_at pieces (k + 1)).edge.x0)) (sym (ap (take ended) (take_more pieces k no_piece within) ∙ take-append-le ended (take k pieces) (g ∷ []) few))
-        (λ i d inside. let upto = late i d inside in let order = x_order pieces fill k (k + 1) (omega arith) more in omega (arith, ints, upto, order)),
-  )
 
   -- What is kept of it stands behind what is kept of those before.
   pub kept-more : (inside : Counts → Bool) (before out outcome : List Edge) (counts : Counts) → counts ≡ below_of pieces g → out ≡ before ++ kept_of inside pieces (take k pieces)

@@ -4,9 +4,10 @@ use Rattle.std.specs.List.{AllPairs, filter}
 use Rattle.std.specs.Int.Signed.{lt_z}
 use Rattle.std.proofs.lemmas.Int.{ints}
 use Rattle.std.proofs.lemmas.Bool.{cases_lt}
-use Rattle.std.proofs.lemmas.List.{get_or_append_left, length-append, length-take-le, take-append-drop, take-append-le, take_all, take_more}
+use Rattle.std.proofs.lemmas.List.{get_or-drop, get_or_append_left, get_or_default, length-append, length-take-le, take-append-drop, take-append-le, take_all, take_more}
 use Rattle.std.proofs.Math.Seq.{get_or-append_seam}
 use Rattle.std.proofs.lemmas.List.Elements.{filter-append}
+use Rattle.std.proofs.lemmas.List.Filters.{FiltersInPlace}
 use Rattle.std.proofs.lemmas.List.Kept.{AllPairs-filter}
 use Rattle.plane.specs.declared.edge.Edge.{Edge}
 use Rattle.plane.specs.declared.point.Point.{Point}
@@ -14,14 +15,14 @@ use Rattle.plane.specs.Meet.Crosses.{IsWithin}
 use Rattle.plane.specs.SweepLine.Heights.{run, height_by_run}
 use Rattle.overlay.specs.declared.fill.pieces.Piece.{Piece}
 use Rattle.overlay.specs.Fill.Counts.{Counts}
-use Rattle.overlay.specs.Fill.Few.{counts_upto, is_upto}
-use Rattle.overlay.specs.Fill.Handed.{HasLooked, goes_on}
+use Rattle.overlay.specs.Fill.Few.{AreActive, counts_upto, goes_on, is_upto}
+use Rattle.overlay.specs.Fill.Handed.{HasLooked}
 use Rattle.overlay.specs.Fill.Pieces.{total}
 use Rattle.overlay.specs.Fill.Sweep.{AreFillPieces, WeighUpto, below_of, no_piece, nothing}
 use Rattle.overlay.specs.Fill.Turned.{asked}
-use Rattle.overlay.proofs.FillLemmas.Tests.{lt_false}
+use Rattle.overlay.proofs.FillLemmas.Tests.{lt_false, lt_true}
 use Rattle.overlay.proofs.FillLemmas.Totals.{total-filter, total-same}
-use Rattle.overlay.proofs.KeptLemmas.Begun.{piece_at, x_order}
+use Rattle.overlay.proofs.KeptLemmas.Begun.{goes_on as onwards, piece_at, x_order}
 use Rattle.overlay.proofs.KeptLemmas.Parts.{weigh-first_ones}
 
 -- What goes on behind an x goes on behind a lesser one.
@@ -62,6 +63,47 @@ looked-next pieces fill k within count live more (few, (from, upto, is)) = (
     is ∙ sym (ap (filter (goes_on from)) (ap (take count) (take_more pieces k no_piece within) ∙ take-append-le count (take k pieces) (piece_at pieces k ∷ []) few)),
   ),
 )
+
+-- ---- the active pieces
+
+-- Before the first piece none is active.
+pub AreActive-none : (x : ℤ) (pieces active : List Piece) → active ≡ [] → AreActive x (take 0 pieces) active
+AreActive-none x pieces active is = (x, omega (arith, ints), is)
+
+-- Those of them that go on are those of all.
+pub active-left : (x : ℤ) (pieces active : List Piece) → AreActive x pieces active → filter (goes_on x) active ≡ filter (goes_on x) pieces
+active-left x pieces active (from, upto, is) = ap (filter (goes_on x)) is ∙ again from x upto pieces
+
+-- Where the next piece begins, one more is active.
+pub active-next : (pieces : List Piece) (fill : AreFillPieces pieces) (k : ℕ) → k < length pieces → (active all : List Piece) → all ≡ active ++ piece_at pieces k ∷ [] → AreActive (piece_at pieces k).edge.x0 (take k pieces) active
+    → k + 1 < length pieces → AreActive (piece_at pieces (k + 1)).edge.x0 (take (k + 1) pieces) all
+active-next pieces fill k within active all one_more (from, upto, is) more = (
+  from,
+  (let order = x_order pieces fill k (k + 1) (omega arith) more in omega (arith, ints, upto, order)),
+  one_more
+      ∙ ap (λ (list : List Piece). list ++ piece_at pieces k ∷ []) is
+      ∙ ap (λ (t : Bool). filter (goes_on from) (take k pieces) ++ cond t (piece_at pieces k ∷ []) []) (sym goes)
+      ∙ sym (filter-append (goes_on from) (take k pieces) (piece_at pieces k ∷ []))
+      ∙ sym (ap (filter (goes_on from)) (take_more pieces k no_piece within)),
+)
+  where
+    goes : goes_on from (piece_at pieces k) ≡ true
+    goes = lt_true from (piece_at pieces k).edge.x1 (let here = onwards pieces fill k within in omega (arith, ints, upto, here))
+
+-- ---- a pass that moves what goes on to the front
+
+-- An item is there whatever stands in its place where it isn't.
+pub packed-here : (now : List Piece) (at : ℕ) → at < length now → piece_at now at ≡ get_or now at (piece_at now at)
+packed-here now at inside = get_or_default now at no_piece (piece_at now at) inside
+
+-- The next piece is the one that stood there.
+pub packed-at : {test : Piece → Bool} (before now : List Piece) (kept at : ℕ) → FiltersInPlace test before now kept at → piece_at now at ≡ piece_at before at
+packed-at before now kept at packed =
+    ap (piece_at now) at_first ∙ sym (get_or-drop at now 0 no_piece) ∙ ap (λ (list : List Piece). piece_at list 0) packed.rest ∙ get_or-drop at before 0 no_piece
+    ∙ ap (piece_at before) (sym at_first)
+  where
+    at_first : at ≡ at + 0
+    at_first = omega arith
 
 -- ---- the counts noted
 
@@ -121,3 +163,7 @@ going-weigh most x pieces weigh = λ test. (
 pub going-weigh_upto : (most : ℕ) (x : ℤ) (pieces : List Piece) → AllPairs (λ one other. one.edge ≢ other.edge) pieces → WeighUpto most pieces → (count : ℕ) → WeighUpto most (take count (filter (goes_on x) pieces))
 going-weigh_upto most x pieces distinct weigh count =
     weigh-first_ones most (filter (goes_on x) pieces) (AllPairs-filter (λ one other. one.edge ≢ other.edge) (goes_on x) pieces distinct) (going-weigh most x pieces weigh) count
+
+-- So it is with the active ones, some of which may have ended.
+pub active-counted : (point : Point) (pieces active : List Piece) → AreActive point.x pieces active → counts_upto point active ≡ counts_upto point pieces
+active-counted point pieces active are = sym (going-counted point active) ∙ ap (counts_upto point) (active-left point.x pieces active are) ∙ going-counted point pieces

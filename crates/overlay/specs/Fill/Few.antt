@@ -1,5 +1,6 @@
 -- What is below a point, counted over few pieces.
-use Rattle.std.specs.Prelude.{◌≡◌, ◌<◌, ◌≤◌, ◌-◌, Bool, not, ◌&&◌, ℕ, List, All, get_or, length, take, ◌*ℤ◌, ◌≤ℤ◌}
+use Rattle.std.specs.Prelude.{◌≡◌, ◌<◌, ◌-◌, Bool, not, ◌&&◌, ℤ, List, get_or, length, ◌*ℤ◌, ◌≤ℤ◌}
+use Rattle.std.specs.List.{filter}
 use Rattle.std.specs.Int.Signed.{lt_z}
 use Rattle.plane.specs.declared.edge.Edge.{Edge}
 use Rattle.plane.specs.declared.point.Point.{Point}
@@ -22,9 +23,13 @@ counts_upto point pieces = record {
   clip = total (asked (is_upto point) (λ p. p.clip)) pieces;
 }
 
--- So many of the first pieces have ended by the point's x.
-abbrev pub HaveEnded : Point → ℕ → List Piece → Type 0
-HaveEnded point count pieces = (count ≤ length pieces) × All (λ piece. piece.edge.x1 ≤ℤ point.x) (take count pieces)
+-- the piece goes on behind x
+abbrev pub goes_on : ℤ → Piece → Bool
+goes_on x piece = lt_z x piece.edge.x1
+
+-- Of these pieces those that go on behind some x, which isn't greater than this one.
+abbrev pub AreActive : ℤ → List Piece → List Piece → Type 0
+AreActive x pieces active = (from : ℤ) × (from ≤ℤ x) × (active ≡ filter (goes_on from) pieces)
 
 -- The last of the pieces begins at the point.
 abbrev pub LastBeginsAt : Point → List Piece → Type 0

@@ -1,6 +1,5 @@
 -- Where pieces end, and what those that end hand on to those that begin there. For private contracts.
 use Rattle.std.specs.Prelude.{◌≡◌, ◌⊎◌, ◌<◌, ◌≤◌, ◌-◌, ℕ, Bool, ◌&&◌, ℤ, ◌+ℤ◌, ◌-ℤ◌, ◌*ℤ◌, ◌≤ℤ◌, ◌<ℤ◌, List, All, AllPairs, Contains, get_or, length, take}
-use Rattle.std.specs.List.{filter}
 use Rattle.std.specs.Int.Signed.{lt_z}
 use Rattle.std.specs.Ordering.{int_cmp, int_eq}
 use Rattle.std.specs.declared.cmp.Ordering.{Ordering}
@@ -13,6 +12,7 @@ use Rattle.plane.specs.SweepLine.Heights.{rise}
 use Rattle.overlay.specs.declared.fill.counts.Counts.{Counts}
 use Rattle.overlay.specs.declared.fill.pieces.Piece.{Piece}
 use Rattle.overlay.specs.Fill.Begins.{steps}
+use Rattle.overlay.specs.Fill.Few.{AreActive}
 use Rattle.overlay.specs.Fill.Sweep.{no_piece}
 
 -- The order in which edges end that go rightwards: by the x of their ends, then by y, and of those that end at one point the
@@ -75,11 +75,7 @@ ends_below point edge = int_eq edge.x1 point.x && lt_z edge.y1 point.y
 abbrev pub begins_below : Point → Edge → Bool
 begins_below point edge = int_eq edge.x0 point.x && lt_z edge.y0 point.y
 
--- the piece goes on behind x
-abbrev pub goes_on : ℤ → Piece → Bool
-goes_on x piece = lt_z x piece.edge.x1
-
 -- Of the first so many pieces these are the ones that go on behind some x, which isn't greater than this one.
 abbrev pub HasLooked : ℤ → List Piece → ℕ → List Piece → Type 0
 HasLooked x pieces count live =
-    (count ≤ length pieces) × ((from : ℤ) × (from ≤ℤ x) × (live ≡ filter (goes_on from) (take count pieces)))
+    (count ≤ length pieces) × AreActive x (take count pieces) live

@@ -1,7 +1,8 @@
-//! The fill of few pieces: each is compared with those that have begun before it.
+//! The fill of few pieces: each is compared with those that have begun before it and go on.
 
-ghost use Rattle.std.specs.Prelude.{◌≡◌, ◌++◌, ◌<◌, ◌^◌, ◌<ℤ◌, ◌≤ℤ◌, pos, true, false, ℕ, All, OnOk, OnErr, drop, take};
-ghost use Rattle.overlay.specs.Fill.Few.{HaveEnded, LastBeginsAt, counts_upto, is_upto};
+ghost use Rattle.std.specs.Prelude.{◌≡◌, ◌≢◌, ◌++◌, ◌<◌, ◌^◌, ◌≤ℤ◌, pos, true, false, ℕ, All, AllPairs, OnOk, OnErr, take};
+ghost use Rattle.std.specs.List.{filter};
+ghost use Rattle.overlay.specs.Fill.Few.{AreActive, LastBeginsAt, counts_upto, goes_on, is_upto};
 ghost use Rattle.overlay.specs.Fill.Rules.{is_result};
 ghost use Rattle.overlay.specs.Fill.Sweep.{AreFillPieces, Fits, WeighUpto, kept_of, no_piece, plus};
 ghost use Rattle.plane.specs.Lists.{Extends};
@@ -16,10 +17,10 @@ use std::alloc::{AllocError, Allocator};
 use std::cmp::Ordering;
 
 /// Appends the edges kept of these pieces, as `append_kept` does: for few pieces, since each is compared with all that have begun
-/// before it, but for those at the front that have ended.
+/// before it and go on.
 ///
 /// What is below a piece is counted over these. It is refused for want of memory alone.
-pub fn append_by_comparing<A: Allocator>(
+pub fn append_by_comparing<A: Allocator + Copy>(
     pieces: &[Piece],
     choice: Choice,
     out: &mut Vec<Edge, A>,
@@ -29,15 +30,16 @@ pub fn append_by_comparing<A: Allocator>(
         ++ kept_of (λ counts. is_result choice.rule choice.operation counts.subject counts.clip) pieces.now pieces.now) }
     ensures err { OnErr result (Extends out.old.items out.new.items) }
 {
-    let mut ended = 0;
+    let mut active = Vec::with_capacity(*out.allocator(), pieces.len())?;
     let mut above = Counts {
         subject: 0,
         clip: 0,
     };
-    // The pieces so far have begun, the first `ended` of them have ended, and the counts are those above the last one.
+    // The pieces so far have begun, those of them that go on are active, and the counts are those above the last one.
     for place in 0..pieces.len() {
         let piece = pieces[place];
-        let below = counts_below(&pieces[..place], &mut ended, above, start_of(piece.edge));
+        let below = counts_below(&pieces[..place], &mut active, above, start_of(piece.edge));
+        active.push(piece)?;
         above = plus(below, piece);
         let is_below = is_result(choice, below);
         let is_above = is_result(choice, above);
@@ -46,21 +48,52 @@ pub fn append_by_comparing<A: Allocator>(
     Ok(())
 }
 
-// As `counts_upto`, where so many of the first pieces are known to have ended by the point's x, and it tells how many are then.
-// Where the last piece begins at the point, too, it is what is above that piece.
-fn counts_below(begun: &[Piece], ended: &mut usize, above: Counts, point: Point) -> Counts
+// As `counts_upto`, where the active pieces are those that go on, and some that have ended by the point's x. These are taken away.
+// Where the last piece begins at the point, too, it is what is above that piece, and no piece is looked at.
+fn counts_below<A: Allocator>(
+    begun: &[Piece],
+    active: &mut Vec<Piece, A>,
+    above: Counts,
+    point: Point,
+) -> Counts
     requires begun { All (λ piece. piece.edge.x0 ≤ℤ point.x) begun.now }
-    requires weigh { (most : ℕ) × (most < 2 ^ 63) × ((first count : ℕ) → WeighUpto most (take count (drop first begun.now))) }
-    requires ended { HaveEnded point ended.old begun.now }
+    requires apart { AllPairs (λ one other. one.edge ≢ other.edge) begun.now }
+    requires weigh { (most : ℕ) × (most < 2 ^ 63) × WeighUpto most begun.now }
+    requires active { AreActive point.x begun.now active.old.items }
     requires above { LastBeginsAt point begun.now → above ≡ counts_upto point begun.now }
     ensures counts { result ≡ counts_upto point begun.now }
-    ensures ended { HaveEnded point ended.new begun.now }
+    ensures active { AreActive point.x begun.now active.new.items }
 {
     if last_begins_at(begun, point) {
         return above;
     }
-    *ended = count_ended(begun, *ended, point);
-    counts_upto(&begun[*ended..], point)
+    let (counts, kept) = counts_of_active(active, point);
+    active.truncate(kept);
+    counts
+}
+
+// What those of the pieces weigh that go on behind the point's x and aren't above the point, and how many go on. These are moved
+// to the front, in their order. No branch depends on either, since it would be guessed wrongly often.
+fn counts_of_active(active: &mut [Piece], point: Point) -> (Counts, usize)
+    requires begun { All (λ piece. piece.edge.x0 ≤ℤ point.x) active.old }
+    requires weigh { (most : ℕ) × (most < 2 ^ 63) × ((count : ℕ) → WeighUpto most (take count active.old)) }
+    ensures counts { result.0 ≡ counts_upto point active.old }
+    ensures kept { take result.1 active.new ≡ filter (goes_on point.x) active.old }
+{
+    let mut counts = Counts {
+        subject: 0,
+        clip: 0,
+    };
+    let mut kept = 0;
+    // Of those so far the ones that go on stand in front, and what is counted is what they weigh. The others are as they were.
+    for at in 0..active.len() {
+        let piece = active[at];
+        let stays = point.x < piece.edge.x1;
+        active[kept] = piece;
+        kept += usize::from(stays);
+        counts = plus_if_upto(counts, piece, point);
+    }
+    (counts, kept)
 }
 
 /// Whether the last of the pieces begins at the point.
@@ -71,19 +104,6 @@ pub fn last_begins_at(pieces: &[Piece], point: Point) -> bool
         Some(last) => last.edge.x0 == point.x && last.edge.y0 == point.y,
         None => false,
     }
-}
-
-// How many of the first pieces have ended by the point's x, where so many are known to have. Some behind one that hasn't may have
-// ended too.
-fn count_ended(begun: &[Piece], known: usize, point: Point) -> usize
-    requires { HaveEnded point known begun.now }
-    ensures { HaveEnded point result begun.now }
-{
-    let mut count = known;
-    while count < begun.len() && begun[count].edge.x1 <= point.x {
-        count += 1;
-    }
-    count
 }
 
 /// What those of the pieces weigh that go on behind the point's x and aren't above the point.
@@ -97,24 +117,22 @@ pub fn counts_upto(begun: &[Piece], point: Point) -> Counts
         clip: 0,
     };
     for piece in begun {
-        if point.x < piece.edge.x1 {
-            counts = plus_unless_above(counts, *piece, point);
-        }
+        counts = plus_if_upto(counts, *piece, point);
     }
     counts
 }
 
-// What the piece, which goes on behind the point's x, adds to the counts, unless it is above the point. No branch depends on that,
-// since it would be guessed wrongly often.
-fn plus_unless_above(counts: Counts, piece: Piece, point: Point) -> Counts
+// What the piece adds to the counts, unless it has ended by the point's x or is above the point. No branch depends on that, since
+// it would be guessed wrongly often.
+fn plus_if_upto(counts: Counts, piece: Piece, point: Point) -> Counts
     requires begun { piece.edge.x0 ≤ℤ point.x }
-    requires goes_on { point.x <ℤ piece.edge.x1 }
     requires within { Fits counts no_piece }
     requires fits { is_upto point piece.edge ≡ true → Fits counts piece }
     ensures upto { is_upto point piece.edge ≡ true → result ≡ plus counts piece }
     ensures above { is_upto point piece.edge ≡ false → result ≡ counts }
 {
-    let is_upto = compare_to_point(piece.edge, point) != Ordering::Greater;
+    let is_upto = (point.x < piece.edge.x1)
+        & (compare_to_point(piece.edge, point) != Ordering::Greater);
     plus(counts, weighed(piece, is_upto))
 }
 

@@ -3,8 +3,8 @@
 
 ghost use Rattle.std.specs.Prelude.{◌≡◌, ◌≢◌, ◌++◌, ◌-◌, ◌<◌, ◌^◌, ◌+ℤ◌, ◌-ℤ◌, ◌≤ℤ◌, ◌<ℤ◌, pos, ℕ, true, All, AllPairs, IfOk, IfSome, OnOk, OnErr, get_or, length};
 ghost use Rattle.std.specs.List.{filter};
-ghost use Rattle.overlay.specs.Fill.Few.{LastBeginsAt, counts_upto};
-ghost use Rattle.overlay.specs.Fill.Handed.{AreEnds, HasLooked, IsCarriedBy, IsHandedBy, carried, goes_on};
+ghost use Rattle.overlay.specs.Fill.Few.{LastBeginsAt, counts_upto, goes_on};
+ghost use Rattle.overlay.specs.Fill.Handed.{AreEnds, HasLooked, IsCarriedBy, IsHandedBy, carried};
 ghost use Rattle.overlay.specs.Fill.Rules.{is_result};
 ghost use Rattle.overlay.specs.Fill.Sweep.{AreFillPieces, Fits, WeighUpto, kept_of, no_piece, nothing};
 ghost use Rattle.plane.specs.Ends.{end_of, start_of};

@@ -1,6 +1,6 @@
 use Rattle.std.proofs.Common.{◌≡◌, ◌++◌, take}
 use Rattle.std.specs.List.{filter}
-use Rattle.overlay.specs.Fill.Handed.{goes_on}
+use Rattle.overlay.specs.Fill.Few.{goes_on}
 use Rattle.overlay.proofs.fill.handed.append_going_on.Given as goal
 
 -- those so far that go on are appended

@@ -4,8 +4,7 @@ use Rattle.std.proofs.lemmas.Int.{ints}
 use Rattle.std.proofs.lemmas.List.{take_all}
 use Rattle.std.proofs.lemmas.List.Elements.{All-filter}
 use Rattle.overlay.specs.declared.fill.pieces.Piece.{Piece}
-use Rattle.overlay.specs.Fill.Few.{counts_upto}
-use Rattle.overlay.specs.Fill.Handed.{goes_on}
+use Rattle.overlay.specs.Fill.Few.{counts_upto, goes_on}
 use Rattle.overlay.specs.Fill.Sweep.{WeighUpto}
 use Rattle.overlay.proofs.KeptLemmas.Looked.{going-counted, going-weigh_upto, looked-all}
 use Rattle.overlay.proofs.fill.handed.counts_below.Goals as goal

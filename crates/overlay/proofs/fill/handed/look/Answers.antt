@@ -4,7 +4,7 @@ use Rattle.std.proofs.lemmas.Fn.{filter_same}
 use Rattle.std.proofs.lemmas.List.Elements.{filter-append}
 use Rattle.std.proofs.lemmas.Result.{on_ok_weaker}
 use Rattle.overlay.specs.declared.fill.pieces.Piece.{Piece}
-use Rattle.overlay.specs.Fill.Handed.{goes_on}
+use Rattle.overlay.specs.Fill.Few.{goes_on}
 use Rattle.overlay.proofs.fill.handed.look.Goals as goal
 
 pub returns : goal.returns
