@@ -18,9 +18,6 @@ use Rattle.overlay.proofs.KeptLemmas.Begun.{goes_on, piece_at, x_order}
 use Rattle.overlay.proofs.KeptLemmas.Swept.{kept_of-more}
 use Rattle.overlay.proofs.KeptLemmas.Upto.{later-above, start_at, upto-begun, upto-lower}
 
-no_less : (a b c : ℤ) → a ≡ pos 0 → b ≡ c → (a +ℤ b) ≡ c
-no_less a b c none is = omega (arith, ints, none, is)
-
 no_more : (a b : ℤ) → b ≡ pos 0 → a ≡ (a +ℤ b)
 no_more a b none = omega (arith, ints, none)
 

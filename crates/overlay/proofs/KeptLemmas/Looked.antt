@@ -92,7 +92,7 @@ active-next pieces fill k within active all one_more (from, upto, is) more = (
 
 -- ---- a pass that moves what goes on to the front
 
--- An item is there whatever stands in its place where it isn't.
+-- The piece at a place of the list, whatever would stand for one beyond its end.
 pub packed-here : (now : List Piece) (at : ℕ) → at < length now → piece_at now at ≡ get_or now at (piece_at now at)
 packed-here now at inside = get_or_default now at no_piece (piece_at now at) inside
 
@@ -164,6 +164,6 @@ pub going-weigh_upto : (most : ℕ) (x : ℤ) (pieces : List Piece) → AllPairs
 going-weigh_upto most x pieces distinct weigh count =
     weigh-first_ones most (filter (goes_on x) pieces) (AllPairs-filter (λ one other. one.edge ≢ other.edge) (goes_on x) pieces distinct) (going-weigh most x pieces weigh) count
 
--- So it is with the active ones, some of which may have ended.
+-- So what is counted of the active ones is what is counted of all.
 pub active-counted : (point : Point) (pieces active : List Piece) → AreActive point.x pieces active → counts_upto point active ≡ counts_upto point pieces
 active-counted point pieces active are = sym (going-counted point active) ∙ ap (counts_upto point) (active-left point.x pieces active are) ∙ going-counted point pieces

@@ -3,8 +3,7 @@ use Rattle.std.proofs.Common.{◌≡◌, ◌≢◌, ◌++◌, [], ◌∷◌, Boo
 use Rattle.std.specs.List.{All, AllPairs}
 use Rattle.std.proofs.lemmas.Int.{ints}
 use Rattle.std.proofs.lemmas.List.{take-append-drop}
-use Rattle.i_tree.proofs.RootLemmas.Joined.{AllPairs-behind, AllPairs-front}
-use Rattle.i_tree.proofs.RootLemmas.Lists.{AllPairs-head, AllPairs-tail}
+use Rattle.i_tree.proofs.RootLemmas.Joined.{AllPairs-front}
 use Rattle.plane.specs.declared.edge.Edge.{Edge}
 use Rattle.plane.specs.Meet.Crosses.{IsWithin}
 use Rattle.plane.proofs.SweepLineLemmas.Adjacent.{AllPairs-before}
@@ -56,29 +55,17 @@ module _ (test : Edge → Bool) (weigh : Piece → ℤ) (piece : Piece) where
   no_more : (a b c : ℤ) → a ≡ c → b ≡ pos 0 → (a +ℤ b) ≡ c
   no_more a b c is none = omega (arith, ints, is, none)
 
-  no_less : (a b c : ℤ) → a ≡ c → b ≡ pos 0 → (b +ℤ a) ≡ c
-  no_less a b c is none = omega (arith, ints, is, none)
-
   but_last : (pieces : List Piece) → All (λ one. one.edge ≢ piece.edge) pieces → total (asked (but test piece.edge) weigh) (pieces ++ piece ∷ []) ≡ total (asked test weigh) pieces
   but_last pieces differ =
       total-more (asked (but test piece.edge) weigh) pieces piece
       ∙ no_more (total (asked (but test piece.edge) weigh) pieces) (asked (but test piece.edge) weigh piece) (total (asked test weigh) pieces) (others pieces differ) alone
 
-  but_first : (pieces : List Piece) → All (λ one. one.edge ≢ piece.edge) pieces → total (asked (but test piece.edge) weigh) (piece ∷ pieces) ≡ total (asked test weigh) pieces
-  but_first pieces differ = no_less (total (asked (but test piece.edge) weigh) pieces) (asked (but test piece.edge) weigh piece) (total (asked test weigh) pieces) (others pieces differ) alone
-
--- ---- the part in front, and the part behind
+-- ---- the part in front
 
 weigh-last : (most : ℕ) (pieces : List Piece) (piece : Piece) → All (λ one. one.edge ≢ piece.edge) pieces → WeighUpto most (pieces ++ piece ∷ []) → WeighUpto most pieces
 weigh-last most pieces piece differ weigh = λ test. (
   subst (IsWithin most) (but_last test (λ p. p.subject) piece pieces differ) (weigh (but test piece.edge)).0,
   subst (IsWithin most) (but_last test (λ p. p.clip) piece pieces differ) (weigh (but test piece.edge)).1,
-)
-
-weigh-first : (most : ℕ) (piece : Piece) (pieces : List Piece) → All (λ one. one.edge ≢ piece.edge) pieces → WeighUpto most (piece ∷ pieces) → WeighUpto most pieces
-weigh-first most piece pieces differ weigh = λ test. (
-  subst (IsWithin most) (but_first test (λ p. p.subject) piece pieces differ) (weigh (but test piece.edge)).0,
-  subst (IsWithin most) (but_first test (λ p. p.clip) piece pieces differ) (weigh (but test piece.edge)).1,
 )
 
 weigh-front : (most : ℕ) (front back : List Piece) → AllPairs Differ (front ++ back) → WeighUpto most (front ++ back) → WeighUpto most front
@@ -87,28 +74,6 @@ weigh-front most front (piece ∷ back) distinct weigh =
     let same : front ++ piece ∷ back ≡ (front ++ piece ∷ []) ++ back = sym (append_assoc front (piece ∷ []) back) in
     let apart = subst (AllPairs Differ) same distinct in
     weigh-last most front piece (AllPairs-before Differ front piece [] (AllPairs-front Differ (front ++ piece ∷ []) back apart)) (weigh-front most (front ++ piece ∷ []) back apart (subst (WeighUpto most) same weigh))
-
-weigh-behind : (most : ℕ) (front back : List Piece) → AllPairs Differ (front ++ back) → WeighUpto most (front ++ back) → WeighUpto most back
-weigh-behind most [] back distinct weigh = weigh
-weigh-behind most (piece ∷ front) back distinct weigh =
-    weigh-behind most front back (AllPairs-tail Differ piece (front ++ back) distinct)
-    (weigh-first most piece (front ++ back) (λ i d within same. AllPairs-head Differ piece (front ++ back) distinct i d within (sym same)) weigh)
-
--- Of the first so many pieces but for some at the front, the first so many.
-pub weigh-between : (most : ℕ) (pieces : List Piece) → AllPairs (λ one other. one.edge ≢ other.edge) pieces → WeighUpto most pieces → (first end count : ℕ) → WeighUpto most (take count (drop first (take end pieces)))
-weigh-between most pieces distinct weigh first end count =
-    let whole = sym (take-append-drop end pieces) in
-    let begun = take end pieces in
-    let apart = subst (AllPairs Differ) whole distinct in
-    let begun_apart = AllPairs-front Differ begun (drop end pieces) apart in
-    let begun_weigh = weigh-front most begun (drop end pieces) apart (subst (WeighUpto most) whole weigh) in
-    let two = sym (take-append-drop first begun) in
-    let live = drop first begun in
-    let two_apart = subst (AllPairs Differ) two begun_apart in
-    let live_weigh = weigh-behind most (take first begun) live two_apart (subst (WeighUpto most) two begun_weigh) in
-    let live_apart = AllPairs-behind Differ (take first begun) live two_apart in
-    let three = sym (take-append-drop count live) in
-    weigh-front most (take count live) (drop count live) (subst (AllPairs Differ) three live_apart) (subst (WeighUpto most) three live_weigh)
 
 -- Of pieces the first so many.
 pub weigh-first_ones : (most : ℕ) (pieces : List Piece) → AllPairs (λ one other. one.edge ≢ other.edge) pieces → WeighUpto most pieces → (count : ℕ) → WeighUpto most (take count pieces)

@@ -1,10 +1,9 @@
 use Rattle.std.proofs.Common.{◌∙◌, ◌≤ℤ◌, List, take, ap, sym, subst, arith, take_at}
-use Rattle.std.specs.List.{All}
+use Rattle.std.specs.List.{All, filter}
 use Rattle.std.proofs.lemmas.Int.{ints}
 use Rattle.std.proofs.lemmas.List.Elements.{All-filter}
 use Rattle.overlay.specs.declared.fill.pieces.Piece.{Piece}
 use Rattle.overlay.specs.Fill.Few.{counts_upto, goes_on}
-use Rattle.std.specs.List.{filter}
 use Rattle.overlay.specs.Fill.Sweep.{WeighUpto}
 use Rattle.overlay.proofs.KeptLemmas.Looked.{active-counted, active-left, going-weigh_upto}
 use Rattle.overlay.proofs.fill.few.counts_below.Goals as goal
