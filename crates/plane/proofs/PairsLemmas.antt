@@ -1,6 +1,7 @@
 -- Lemmas on the sweep that tells all pairs of items that meet.
 pub mod Bags
 pub mod Between
+pub mod Boxes
 pub mod Compared
 pub mod Complete
 pub mod Extends
