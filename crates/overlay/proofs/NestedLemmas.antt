@@ -1,6 +1,6 @@
 -- Whatever polygons are made of rings that keep sides, each winds once around a point or not at all, and its rings share points
 -- along no circle, where each hole is of the polygon just below it.
-use Rattle.std.proofs.Common.{◌≢◌, List, [], ◌∷◌, subst}
+use Rattle.std.proofs.Common.{List, [], ◌∷◌, subst}
 use Rattle.std.specs.List.{All, Contains, flat_map}
 use Rattle.std.specs.List.Sorted.{IsPermutation}
 use Rattle.std.proofs.lemmas.List.Concat.{flat_map-append}
@@ -10,7 +10,6 @@ use Rattle.i_tree.proofs.RootLemmas.Joined.{All-behind, All-front, AllPairs-behi
 use Rattle.i_tree.proofs.RootLemmas.Lists.{Contains-here, Contains-there}
 use Rattle.plane.specs.declared.edge.Edge.{Edge}
 use Rattle.plane.specs.declared.point.Point.{Point}
-use Rattle.plane.specs.Ends.{end_of, start_of}
 use Rattle.overlay.specs.Contours.Rings.{AreContours, IsRing, ring_edges}
 use Rattle.overlay.specs.Fill.Filled.{AreDistinct, HaveSameEnds}
 use Rattle.overlay.specs.Nesting.{NestOnce}
@@ -27,23 +26,17 @@ use Rattle.overlay.proofs.WindsLemmas.Whole.{go-whole}
 abbrev Differ : Edge → Edge → Type 0
 Differ one other = ¬ (HaveSameEnds one other)
 
--- The edge is no point.
-abbrev HasTwoEnds : Edge → Type 0
-HasTwoEnds edge = start_of edge ≢ end_of edge
-
 -- Where closed edges go around each ring of a polygon as a whole, its rings share points along no circle.
-share-each : (polygons : List (List (List Point))) → All IsRing (rings_of polygons) → AreDistinct (polygon_edges polygons) → All HasTwoEnds (polygon_edges polygons) → ((polygon : List (List Point)) → Contains polygons polygon → GoWhole polygon)
+share-each : (polygons : List (List (List Point))) → All IsRing (rings_of polygons) → AreDistinct (polygon_edges polygons) → ((polygon : List (List Point)) → Contains polygons polygon → GoWhole polygon)
     → All ShareAlongNoCircle polygons
-share-each [] are distinct two_ends go = All-nil ShareAlongNoCircle
-share-each (polygon ∷ others) are distinct two_ends go =
+share-each [] are distinct go = All-nil ShareAlongNoCircle
+share-each (polygon ∷ others) are distinct go =
     let first = flat_map ring_edges polygon in
     let rest = polygon_edges others in
-    let split = flat_map-append ring_edges polygon (rings_of others) in
-    let distinct_all = subst AreDistinct split distinct in
-    let two_ends_all = subst (All HasTwoEnds) split two_ends in
+    let distinct_all = subst AreDistinct (flat_map-append ring_edges polygon (rings_of others)) distinct in
     All-cons ShareAlongNoCircle polygon others
-    (share-along-no-circle polygon (All-front IsRing polygon (rings_of others) are) (AllPairs-front Differ first rest distinct_all) (All-front HasTwoEnds first rest two_ends_all) (go polygon (Contains-here polygon others)))
-    (share-each others (All-behind IsRing polygon (rings_of others) are) (AllPairs-behind Differ first rest distinct_all) (All-behind HasTwoEnds first rest two_ends_all) (λ one held. go one (Contains-there polygon others one held)))
+    (share-along-no-circle polygon (All-front IsRing polygon (rings_of others) are) (AllPairs-front Differ first rest distinct_all) (go polygon (Contains-here polygon others)))
+    (share-each others (All-behind IsRing polygon (rings_of others) are) (AllPairs-behind Differ first rest distinct_all) (λ one held. go one (Contains-there polygon others one held)))
 
 -- Rings that keep sides nest once.
 pub nest-once : (edges : List Edge) (rings : List (List Point)) → AreContours edges rings → AreBorders edges → KeepSides edges rings → NestOnce rings
@@ -55,4 +48,4 @@ nest-once edges rings contours borders keep polygons moved are nested =
     let all_borders = AreBorders-permuted edges (polygon_edges polygons) same borders in
     let all_keep = KeepSides-permuted edges (polygon_edges polygons) rings (rings_of polygons) same back keep in
     let each = nested-once polygons are_rings all_borders all_keep nested in
-    (each, share-each polygons are_rings all_borders.distinct all_borders.two_ends (λ polygon held. go-whole polygons are_rings all_borders all_keep are each polygon held))
+    (each, share-each polygons are_rings all_borders.distinct (λ polygon held. go-whole polygons are_rings all_borders all_keep are each polygon held))

@@ -9,7 +9,6 @@ use Rattle.std.proofs.lemmas.Bool.{and_from, and_parts, both_ways, cases_eq, ne_
 use Rattle.std.proofs.lemmas.Bool.Decides.{Decides-eqb}
 use Rattle.std.proofs.lemmas.List.Elements.{Contains-get_or}
 use Rattle.plane.specs.declared.point.Point.{Point}
-use Rattle.plane.specs.Ends.{end_of, start_of}
 use Rattle.overlay.specs.Contours.Rings.{IsRing, ring_edges}
 use Rattle.overlay.specs.Fill.Filled.{AreDistinct}
 use Rattle.overlay.specs.OnePiece.{ComesFreeBy, GoWhole, IsThere, ShareAlongNoCircle, SharesIn}
@@ -125,6 +124,5 @@ module _ (polygon : List (List Point)) (place : ℕ) (point : Point) where
     comes-free = record { side = side; alike = sides-alike; across = sides-across }
 
 -- The rings of a polygon share points along no circle.
-pub share-along-no-circle : (polygon : List (List Point)) → All IsRing polygon → AreDistinct (flat_map ring_edges polygon)
-    → All (λ edge. start_of edge ≢ end_of edge) (flat_map ring_edges polygon) → GoWhole polygon → ShareAlongNoCircle polygon
-share-along-no-circle polygon each distinct _ whole place point shares = comes-free polygon place point each distinct whole shares
+pub share-along-no-circle : (polygon : List (List Point)) → All IsRing polygon → AreDistinct (flat_map ring_edges polygon) → GoWhole polygon → ShareAlongNoCircle polygon
+share-along-no-circle polygon each distinct whole place point shares = comes-free polygon place point each distinct whole shares
