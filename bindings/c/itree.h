@@ -50,7 +50,7 @@ enum itree_status {
 /* A status in words, which stay as long as the library does; of a number that is none, that it is none. */
 const char *itree_status_text(int32_t status);
 
-/* The version of the library, as "0.7.0". It is ITREE_VERSION of the header that came with it. */
+/* The version of the library, as "0.7.1". It is ITREE_VERSION of the header that came with it. */
 const char *itree_version(void);
 
 /* Limits the memory of this thread's calls, from the next one on: no call holds more bytes at once than so many, of those

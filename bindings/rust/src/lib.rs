@@ -46,7 +46,7 @@ mod tiles;
 mod validity;
 mod wkb;
 
-/// The version of the library, as `"0.7.0"`.
+/// The version of the library, as `"0.7.1"`.
 pub fn version() -> &'static str {
     // SAFETY: the library answers a text that ends with 0 and stays.
     unsafe { CStr::from_ptr(calls::itree_version()) }

@@ -4,7 +4,7 @@ ghost use Rattle.std.specs.Prelude.{◌↔◌, IsTrue};
 ghost use Rattle.itree.specs.Modes.{MeansVersion, AsksForVersion};
 
 /// The program's name and its version, which the file `VERSION` at the top of the repository says too.
-pub const VERSION: &str = "itree 0.7.0\n";
+pub const VERSION: &str = "itree 0.7.1\n";
 
 /// Whether the arguments ask for the version.
 pub fn asks_for_version(words: &[&str]) -> bool
