@@ -6,7 +6,7 @@
 - A word with dots is a definition of specs/, or a lemma of proofs/, by its module or the end of that; or such a module; or
   what a class of Python has.
 - Any other word, and what a piece of code calls, is a name that a source of the libraries, of the wrappers or of the program
-  defines, or one of `OTHERS` below.
+  defines, a word that the program or the command of Python takes, or one of `OTHERS` below.
 - In 'X of Y', and in 'X in Y' where Y is a file, X is defined in the file Y, at the function Y, or where Y is.
 - A link leads to a file, and to a heading of it.
 """
@@ -45,6 +45,8 @@ BUILT = {
     "liblibc_c.a",
     "out",
 }
+
+COMMAND_OF_PYTHON = "bindings/python/itree/__main__.py"
 
 ENDINGS = "antt c cpp edit h hpp lines md py replies rs rt sh svg toml txt".split()
 LINK = re.compile(r"\]\((?!https?:)([^)#\s]*)(?:#([^)\s]*))?\)")
@@ -135,9 +137,8 @@ class Sources:
         for path in filter(lambda path: path.endswith(".rt"), self.texts):
             self.add_contracts(path)
         stems = {part.partition(".")[0] for place in self.places for part in place.split("/")}
-        words = {
-            word for path, text in self.texts.items() if path.startswith("crates/itree/src/") for word in LITERAL.findall(text)
-        }
+        programs = [text for path, text in self.texts.items() if path.startswith("crates/itree/src/")]
+        words = {word for text in [*programs, text_of(COMMAND_OF_PYTHON)] for word in LITERAL.findall(text)}
         bindings = [text_of(path) for path in self.paths if path.startswith("bindings/")]
         forms = ITEM, NAME_OF_C, FIELD_OF_PYTHON, MEMBER_OF_CPP
         wrappers = {name for text in bindings for form in forms for name in form.findall(text)}

@@ -1,14 +1,18 @@
 """The command over files: each format there and back, attributes, each feature and those of one value, faults with their
-places, pictures, and the bar on a terminal; and the ways in bulk beside the plain ones.
+places, pictures, and the bar on a terminal; which features aren't valid, beside shapely; and the ways in bulk beside the plain
+ones.
 
-bindings/test runs it. What needs numpy or fiona is skipped where they aren't there.
+bindings/test runs it, over a library that refuses memory when it is told to (ITREE_LIBRARY). What needs numpy, fiona or shapely
+is skipped where they aren't there.
 """
 
 import array
 import collections
 import contextlib
+import ctypes
 import fractions
 import io
+import itertools
 import json
 import math
 import os
@@ -35,10 +39,16 @@ try:
     import fiona
 except ImportError:
     fiona = None
+try:
+    import shapely.geometry as shapely
+    from shapely.validation import explain_validity
+except ImportError:
+    shapely = None
 
 TOP = pathlib.Path(__file__).resolve().parent.parent.parent
 needs_numpy = unittest.skipUnless(numpy, "numpy isn't there")
 needs_fiona = unittest.skipUnless(fiona, "fiona isn't there")
+needs_shapely = unittest.skipUnless(shapely, "shapely isn't there")
 
 
 def square(x, y, side):
@@ -451,7 +461,7 @@ class Documents(Files):
         section = (TOP / "docs" / "COMMANDS.md").read_text(encoding="utf-8").partition("\n## `python3 -m itree`\n")[2]
         rows = re.findall(r"^\| (`--\w.*?) \|", section, re.M)
         listed = [it for row in rows for it in re.findall(r"`(--[\w-]+)", row)]
-        said = [self.called(it, "--help")[1] for it in ("overlay", "offset")]
+        said = [self.called(it, "--help")[1] for it in ("overlay", "offset", "valid")]
         told = set(re.findall(r"(?<!\w)--\w[\w-]*", "".join(said)))
         self.assertEqual(sorted(told - {"--help"}), sorted(set(listed) - {"--version"}))
         endings = [it for row in re.findall(r"^\| (`\..*?) \|", section, re.M) for it in re.findall(r"`(.*?)`", row)]
@@ -515,6 +525,267 @@ class Faults(Files):
         self.assertEqual(self.fails("simplify", "--unit", "1e-9", self.parcels), said)
         said = "the unit 2.3283064365386963e-10 is too fine: 0.0 is more than 2**31 units from the middle"
         self.assertEqual(self.fails("simplify", "--unit", str(2.0**-32), self.parcels), said)
+
+
+OCTAGON = [[3, 0], [6, 0], [9, 3], [9, 6], [6, 9], [3, 9], [0, 6], [0, 3], [3, 0]]
+BOW = polygon([[0, 0], [4, 4], [4, 0], [0, 4], [0, 0]])
+TWICE = polygon([[9, 20], [10.5, 20], [12, 20], [12, 25], [10.5, 20], [9, 25], [9, 20]])
+OUTSIDE = polygon(square(0, 0, 9), [[11, 1], [12, 1], [11, 2], [11, 1]])
+SQUARES = [polygon(square(0, 0, 4)), polygon(square(0, 0, 4))]
+# A square, of which one point has a height: it isn't read in bulk.
+HIGH = polygon([[0, 0, 1], *square(0, 0, 4)[1:4], [0, 0, 1]])
+# Shapes, and what is wrong with each, in the words of shapely 1.8.5, and where it says so.
+JUDGED = {
+    "a square": (SQUARES[0], None),
+    "a bow-tie": (BOW, "Self-intersection[2 2]"),
+    "one whose crossing isn't whole": (polygon([[0, 0], [3, 3], [3, 0], [0, 3], [0, 0]]), "Self-intersection[1.5 1.5]"),
+    "a ring that touches itself": (TWICE, "Ring Self-intersection[10.5 20]"),
+    "a hole outside": (OUTSIDE, "Hole lies outside shell[11 1]"),
+    "a hole in a hole": (polygon(square(0, 0, 9), square(1, 1, 7), square(2, 2, 2)), "Holes are nested[2 2]"),
+    "a hole that touches an octagon": (polygon(OCTAGON, [[6, 9], [4, 4], [5, 4], [6, 9]]), None),
+    "one that touches it twice": (polygon(OCTAGON, [[6, 9], [4, 5], [3, 0], [5, 4], [6, 9]]), "Interior is disconnected[6 9]"),
+    "squares side by side": ({"type": "MultiPolygon", "coordinates": [[square(0, 0, 4)], [square(5, 0, 4)]]}, None),
+    "a square in a square": (
+        {"type": "MultiPolygon", "coordinates": [[square(0, 0, 9)], [square(2, 2, 2)]]},
+        "Nested shells[2 2]",
+    ),
+    "a collection, whose parts may overlap": ({"type": "GeometryCollection", "geometries": SQUARES}, None),
+    "one with a part that isn't valid": (
+        {"type": "GeometryCollection", "geometries": [*SQUARES, BOW]},
+        "Self-intersection[2 2]",
+    ),
+    "a height": (polygon([[*it, 7] for it in square(0, 0, 4)]), None),
+    "nothing": ({"type": "Polygon", "coordinates": []}, None),
+}
+
+
+def hex_line(geometry):
+    return shapely.shape(geometry).wkb_hex.encode()
+
+
+class Valid(Files):
+    """Which features aren't valid, and why."""
+
+    def judged(self, *words):
+        """The lines that it prints, behind which it ends with 1; or none, and it ends with 0."""
+        status, output, faults = self.called("valid", *words)
+        self.assertEqual((status, faults), (1 if output else 0, ""))
+        return output.splitlines()
+
+    def test_shapes(self):
+        for name, (shape, reason) in JUDGED.items():
+            wanted = [f"1: {reason}"] if reason else []
+            for content in shape, feature(shape, {"id": 5}), collection(feature(shape, None)):
+                with self.subTest(name=name, of=content["type"]):
+                    self.assertEqual(self.judged(self.file("one.geojson", content)), wanted)
+
+    @needs_shapely
+    def test_as_shapely_tells(self):
+        for name, (shape, reason) in JUDGED.items():
+            with self.subTest(name=name):
+                self.assertEqual(explain_validity(shapely.shape(shape)), reason or "Valid Geometry")
+
+    def test_files(self):
+        line = json.dumps(BOW)
+        for name, content, wanted in (
+            ("none.geojson", collection(), []),
+            ("none.geojsonl", b"\n", []),
+            ("none.wkbhex", b"", []),
+            ("valid.geojson", PARCELS, []),
+            (
+                "ids.geojson",
+                collection(*(feature(BOW, {}, id=it) for it in (7, "7", "a", 0, None, [1]))),
+                [
+                    "1, id 7: Self-intersection[2 2]",
+                    '2, id "7": Self-intersection[2 2]',
+                    '3, id "a": Self-intersection[2 2]',
+                    "4, id 0: Self-intersection[2 2]",
+                    "5: Self-intersection[2 2]",
+                    "6: Self-intersection[2 2]",
+                ],
+            ),
+            ("odd.geojson", feature(BOW, {}, id="\xc4\n\x9b"), ['1, id "\\u00c4\\n\\u009b": Self-intersection[2 2]']),
+            ("one.json", feature(OUTSIDE, {}, id="b"), ['1, id "b": Hole lies outside shell[11 1]']),
+            (
+                "without.geojson",
+                collection(feature(None, {}, id=1), feature(TWICE, {}, id=2)),
+                ["2, id 2: Ring Self-intersection[10.5 20]"],
+            ),
+            (
+                "lines.ndjson",
+                f"{line}\n\n{json.dumps(FLOOD)}\r\n{json.dumps(feature(BOW, {}, id=3))}".encode(),
+                [
+                    "1: Self-intersection[2 2]",
+                    "3, id 3: Self-intersection[2 2]",
+                ],
+            ),
+            ("other", BOW, ["1: Self-intersection[2 2]"]),
+        ):
+            with self.subTest(name=name):
+                self.assertEqual(self.judged(self.file(name, content)), wanted)
+
+    def test_what_is_not_read_in_bulk(self):
+        """Parts of a collection may overlap there, too."""
+        parts = {"type": "GeometryCollection", "geometries": [HIGH, SQUARES[0]]}
+        several = {"type": "MultiPolygon", "coordinates": [HIGH["coordinates"], [square(1, 1, 2)]]}
+        line = json.dumps(collection(HIGH, HIGH))
+        lines = self.file("lines.geojsonl", f"{line}\n{json.dumps(BOW)}".encode())
+        self.assertEqual(self.judged(lines), ["2: Self-intersection[2 2]"])
+        for content, wanted in (
+            (parts, []),
+            (collection(feature(parts, {}), feature(HIGH, {})), []),
+            (collection(feature(HIGH, {}, id=1), feature(BOW, {}, id=2)), ["2, id 2: Self-intersection[2 2]"]),
+            ({"type": "GeometryCollection", "geometries": [parts, BOW]}, ["1: Self-intersection[2 2]"]),
+            (several, ["1: Nested shells[1 1]"]),
+        ):
+            with self.subTest(content=content):
+                self.assertEqual(self.judged(self.file("odd.geojson", content)), wanted)
+        said = (
+            ", feature 1, geometry 1: Point; Polygon, MultiPolygon, GeometryCollection, Feature or FeatureCollection is wanted"
+        )
+        point = {"type": "GeometryCollection", "geometries": [HIGH, {"type": "Point", "coordinates": [1, 2]}]}
+        faulty = self.file("faulty.geojson", collection(HIGH, point))
+        self.assertEqual(self.fails("valid", faulty), faulty + said)
+
+    def test_deep_collections(self):
+        """As deep as Python reads them, and somewhat deeper, they are told as too deep."""
+        for inner, depth in itertools.product((SQUARES[0], HIGH), (16, 17, *range(440, 500, 2), 600)):
+            text = '{"type": "GeometryCollection", "geometries": [' * depth + json.dumps(inner) + "]}" * depth
+            deep = self.file("deep.geojson", text.encode())
+            with self.subTest(depth=depth):
+                if depth == 16:
+                    self.assertEqual(self.judged(deep), [])
+                else:
+                    self.assertRegex(self.fails("valid", deep), f"^{deep}(, byte 144)?: (collections in|maximum recursion)")
+
+    def test_unit(self):
+        """Whole numbers are exact, and a grid may be coarser than a shape."""
+        least, most = -(2**31), 2**31 - 1
+        bow = self.file("bow.geojson", polygon([[least, least], [most, most], [most, least], [least, most], [least, least]]))
+        self.assertEqual(self.judged(bow), ["1: Self-intersection[-0.5 -0.5]"])
+        # By the unit 1 the first triangle is a line from 0 to 4, and by 1/4 none.
+        thin = collection(polygon([[0, 0], [4, 0.25], [4, 0], [0, 0]]), polygon(square(90, 90, 1)))
+        thin = self.file("thin.geojson", thin)
+        self.assertEqual((self.judged(thin), self.judged("--unit", "0.25", thin)), ([], []))
+        (told,) = self.judged("--unit", "1", thin)
+        self.assertRegex(told, r"^1: Too few points in geometry component\[[04] 0\]$")
+        # Each feature has a grid of its own, and by one of both the first is a point.
+        apart = collection(polygon([[0.1, 0.1], [0.4, 0.1], [0.4, 0.3], [0.1, 0.1]]), polygon(square(1e9, 1e9 + 0.5, 2e9)))
+        apart = self.file("apart.geojson", apart)
+        self.assertEqual(self.judged(apart), [])
+        self.assertEqual(self.judged("--unit", "2", apart), ["1: Too few points in geometry component[0 0]"])
+        for unit, said in ("0.3", "a power of two is wanted, as 0.25, 2**-2"), (str(2.0**-9), "is too fine: "):
+            self.assertIn(said, self.fails("valid", "--unit", unit, apart))
+
+    def test_faults(self):
+        point = {"type": "Point", "coordinates": [0, 1]}
+        wanted = "Polygon, MultiPolygon, GeometryCollection, Feature or FeatureCollection is wanted"
+        for name, content, said in (
+            ("cut.geojson", b'{"type": "Polygon", "coordinates": [[[0, 0], [1', ", line 1, column 48: Expecting ',' delimiter"),
+            ("point.geojson", collection(BOW, feature(point, {}, id=4)), f", feature 1: Point; {wanted}"),
+            ("list.geojson", b"[1]", ": no object; one of GeoJSON is wanted"),
+            (
+                "wide.ndjson",
+                json.dumps(polygon([[0, 0], [1e999, 0]])).encode(),
+                ", feature 0, ring 0, row 1: inf; finite numbers are wanted",
+            ),
+            ("some.wkbhex", b"01x3", ", line 1: digits in hex are wanted, two for each byte"),
+            (
+                "point.wkbhex",
+                b"\n0101000000" + b"00" * 16,
+                ", line 2, byte 1: Point; Polygon, MultiPolygon or GeometryCollection is wanted",
+            ),
+            ("picture.svg", b"", ": a picture is written alone, and not read"),
+        ):
+            faulty = self.file(name, content)
+            with self.subTest(name=name):
+                self.assertEqual(self.fails("valid", faulty), faulty + said)
+        none = self.path("none.geojson")
+        self.assertEqual(self.fails("valid", none), f"{none}: No such file or directory")
+        for words in (), (self.flood, self.parcels), ("--each", self.flood), ("--unit", "x", self.flood):
+            status, output, faults = self.called("valid", *words)
+            self.assertEqual((status, output), (2, ""))
+            self.assertIn("error: ", faults)
+
+    def ran(self, *words, **how):
+        """The status of a process of its own, and what it wrote."""
+        ran = subprocess.run([sys.executable, "-m", "itree", "valid", *words], stderr=subprocess.PIPE, text=True, **how)
+        return ran.returncode, ran.stdout, ran.stderr
+
+    def test_standard_input(self):
+        for content, status, output in (
+            (collection(FLOOD, feature(BOW, {}, id="b")), 1, '2, id "b": Self-intersection[2 2]\n'),
+            (PARCELS, 0, ""),
+        ):
+            self.assertEqual(self.ran("-", input=json.dumps(content), stdout=subprocess.PIPE), (status, output, ""))
+        said = "itree: -, line 1, column 2: Expecting property name enclosed in double quotes\n"
+        self.assertEqual(self.ran("-", input="{", stdout=subprocess.PIPE), (2, "", said))
+
+    def test_ends_with_2(self):
+        """Where it can't tell, for 1 says that some aren't valid."""
+        bow = self.file("bow.geojson", BOW)
+        library = ctypes.CDLL(os.environ["ITREE_LIBRARY"])
+        library.refuse_after(ctypes.c_size_t(0))
+        try:
+            self.assertEqual(self.called("valid", bow), (2, "", "itree: memory was refused\n"))
+        finally:
+            library.refuse_after(ctypes.c_size_t(-1))
+        with open("/dev/full", "w") as full:
+            self.assertEqual(self.ran(bow, stdout=full), (2, None, "itree: the standard output: No space left on device\n"))
+        reading, writing = os.pipe()
+        os.close(reading)
+        self.assertEqual(self.ran(bow, stdout=writing), (2, None, "itree: the standard output was closed\n"))
+        os.close(writing)
+
+    @needs_fiona
+    def test_fiona(self):
+        shapes = [SQUARES[0], BOW, TWICE, OUTSIDE]
+        wanted = ["2: Self-intersection[2 2]", "3: Ring Self-intersection[10.5 20]", "4: Hole lies outside shell[11 1]"]
+        for ending, driver in (".gpkg", "GPKG"), (".fgb", "FlatGeobuf"), (".shp", "ESRI Shapefile"):
+            path = self.path(f"some{ending}")
+            # FlatGeobuf has an order of its own, but for one with no index.
+            how = {"SPATIAL_INDEX": "NO"} if ending == ".fgb" else {}
+            schema = {"geometry": "Polygon", "properties": {"a": "int"}}
+            with fiona.open(path, "w", driver=driver, schema=schema, **how) as target:
+                target.writerecords([feature(it, {"a": 1}) for it in shapes])
+            with self.subTest(ending=ending):
+                # Of a Shapefile's rings GDAL says which are holes: one outside is none.
+                self.assertEqual(self.judged(path), wanted[:2] if ending == ".shp" else wanted)
+
+    @needs_shapely
+    def test_by_chance(self):
+        numbers, counts = random.Random(9), collections.Counter()
+        for ending in [".geojson", ".ndjson", ".wkbhex"] * 30:
+            shapes = [any_shape(numbers) for _ in range(20)]
+            if ending == ".geojson":
+                content = collection(*(feature(it, {}) for it in shapes))
+            else:
+                content = b"\n".join([hex_line(it) if ending == ".wkbhex" else json.dumps(it).encode() for it in shapes])
+            told = {
+                int(number): said for number, said in (it.split(": ") for it in self.judged(self.file(f"any{ending}", content)))
+            }
+            wanted = [number for number, it in enumerate(shapes, 1) if not shapely.shape(it).is_valid]
+            self.assertEqual(sorted(told), wanted)
+            self.assertEqual(list(told.values()), [itree.is_valid_reason(shapes[it - 1]) for it in wanted])
+            counts.update(valid=len(shapes) - len(wanted), others=len(wanted))
+        self.assertGreater(min(counts.values()), 300)
+
+
+def any_shape(numbers):
+    """A polygon of few points, two of these together, or a collection of such."""
+    kind = numbers.random()
+    if kind < 0.2:
+        return {"type": "GeometryCollection", "geometries": [any_shape(numbers) for _ in range(numbers.randrange(3))]}
+    if kind < 0.4:
+        return {"type": "MultiPolygon", "coordinates": [polygon_by_chance(numbers)["coordinates"] for _ in range(2)]}
+    return polygon_by_chance(numbers)
+
+
+def polygon_by_chance(numbers):
+    """A triangle or a ring of four, which may cross itself, or a square with such a one for a hole."""
+    points = [[numbers.randrange(-9, 10), numbers.randrange(-9, 10)] for _ in range(numbers.choice([3, 3, 4]))]
+    ring = points + points[:1]
+    return polygon(square(-9, -9, 18), ring) if numbers.random() < 0.3 else polygon(ring)
 
 
 class Pictures(Files):

@@ -767,7 +767,7 @@ class Command(unittest.TestCase):
     def test_asked_for_help(self):
         for word in "--version", "-V":
             self.assertEqual(self.called(word), (0, f"itree {itree.__version__}\n", ""))
-        for words in ("--help",), ("help",), ("overlay", "--help"), ("simplify", "-h"):
+        for words in ("--help",), ("help",), ("overlay", "--help"), ("simplify", "-h"), ("valid", "--help"):
             status, output, faults = self.called(*words)
             self.assertEqual((status, faults), (0, ""))
             self.assertIn("usage: python3 -m itree", output)

@@ -1151,6 +1151,8 @@ pieces: itree.Pieces = itree.clip([[(0, 0), (9, 9.5)], None], polygons, "outside
 pieces = itree.clip({"type": "LineString", "coordinates": []}, [b""])
 piece: List[List[Tuple[float, float]]] = pieces[0]
 each = pieces.to_wkb()
+judged = itree.is_valid([[(0, 0), (9, 9)]]), itree.is_valid(b""), itree.is_valid([[[(0, 0), (9, 9)]], None, b""], grid=grid)
+told = itree.is_valid_reason(polygons), itree.is_valid_reason({"type": "Polygon", "coordinates": []}, memory_limit=10**9)
 version: str = itree.__version__
 itree.meetings([(0.5, 1, 2, 3)])  # error
 itree.meetings("abcd")  # error
@@ -1173,6 +1175,8 @@ itree.overlay_each([], [], "sum")  # error
 itree.points_in([(1, 2)], polygons, border="half")  # error
 view = itree.points_in([(1, 2)], polygons)  # error
 itree.clip([], [], "in")  # error
+itree.is_valid(7)  # error
+itree.is_valid_reason([(0, 0), (9, 9)])  # error
 """
 
 

@@ -68,7 +68,8 @@ Shapes
     `python3 -m itree overlay a.geojson b.geojson` takes files: see its --help.
 
     `is_valid` tells whether a shape is valid, and `is_valid_reason` why it isn't and
-    where, as shapely's. With whole numbers both are exact.
+    where, as shapely's. With whole numbers both are exact. `python3 -m itree valid
+    a.geojson` tells it of the features of a file.
 
     >>> itree.is_valid_reason([[(0, 0), (4, 4), (4, 0), (0, 4)]])
     'Self-intersection[2 2]'

@@ -1,29 +1,48 @@
 """The command `python3 -m itree`, and `itree` where the package is installed: polygons of files of GeoJSON, or of lines.
 
 It ends with 0; with 1 where memory is refused, or the answer isn't taken; with 2 where the words or a file are faulty.
+`valid` ends with 0 where all features are valid, with 1 where some aren't, and with 2 where it can't tell, whatever the cause.
 """
 
 from __future__ import annotations
 
 import argparse
+import contextlib
 import os
 import sys
-from typing import Iterable, List, NoReturn, Optional, Sequence
+from typing import Iterable, Iterator, List, NoReturn, Optional, Sequence
 
-from . import _files, _lines, _offset, _tasks
+from . import _files, _judged, _lines, _offset, _tasks
 from ._files import Answer
 from ._library import version
 from ._overlay import OPERATIONS, RULES, overlaid
 from ._progress import Progress
 from ._tasks import Task
 
-DESCRIPTION = """\
+FILES = """\
+It is what its ending says: GeoJSON (.geojson, .json), lines of it (.geojsonl, .ndjson), well-known binary in hex, a shape in
+each line (.wkb.hex, .wkbhex); with fiona GeoPackage (.gpkg, or FILE.gpkg:LAYER), Shapefile (.shp) and FlatGeobuf (.fgb); any
+other is read as GeoJSON.
+"""
+DESCRIPTION = f"""\
 Writes what is made of polygons, as GeoJSON to the standard output, or into files: a Feature with a MultiPolygon, whose
 outer rings run counterclockwise and whose holes run clockwise. A FILE has polygons, all of which are taken together; - is
-the standard input. It is what its ending says: GeoJSON (.geojson, .json), lines of it (.geojsonl, .ndjson), well-known
-binary in hex, a shape in each line (.wkb.hex, .wkbhex); with fiona GeoPackage (.gpkg, or FILE.gpkg:LAYER), Shapefile
-(.shp) and FlatGeobuf (.fgb); any other is read as GeoJSON. Coordinates are first rounded to whole multiples of a unit, a
-power of two, which the answer's properties tell: so points within a unit of an edge may be told wrongly, and no others.
+the standard input.
+{FILES}\
+Coordinates are first rounded to whole multiples of a unit, a power of two, which the answer's properties tell: so points
+within a unit of an edge may be told wrongly, and no others.
+"""
+BESIDES = """\
+But valid prints lines of text: see its --help.
+"""
+OF_VALID = f"""\
+Prints a line for each feature of a FILE that isn't valid, as OGC and shapely have it, and nothing where all are: its number,
+from 1 on, its id where it has one, and why it isn't, and where, as 3, id "b": Ring Self-intersection[10.5 20]. It ends with 0
+where all are valid, with 1 where some aren't, and with 2 where it can't tell, as where the words or the file are faulty. A
+FILE has polygons, and a point or a line is a fault; a feature without a geometry is valid. - is the standard input.
+{FILES}\
+Whole coordinates of 32 bits are taken as they are. Others are first rounded to whole multiples of a unit, a power of two:
+features whose points lie within a unit of an edge may be told wrongly, and no others.
 """
 LINES = """\
 Without files, as in `overlay union nonzero`, it reads lines `subject X Y ..` and `clip X Y ..` from the standard input, each
@@ -34,6 +53,7 @@ of a ring of whole numbers, and prints lines `polygon X Y ..` and `hole X Y ..`,
 # Words that are of files alone.
 _OF_FILES = "unit", "each", "by", "features", "digits", "output"
 _MOST_DIGITS = 17
+_VALID = "valid"
 
 
 class Fault(Exception):
@@ -55,19 +75,22 @@ def main(words: Optional[List[str]] = None) -> int:
     try:
         if asked.files.count("-") > 1:
             raise Fault("the standard input can be one file alone")
+        if asked.command == _VALID:
+            return _look(asked)
         if asked.files:
             _run(asked)
         else:
             _run_lines(asked)
     except Fault as fault:
         print(f"itree: {fault}", file=sys.stderr)
-        return fault.status
+        # Of `valid` 1 says that some features aren't.
+        return 2 if asked.command == _VALID else fault.status
     return 0
 
 
 def _parser() -> argparse.ArgumentParser:
     is_script = os.path.basename(sys.argv[0]) == "itree"
-    parser = argparse.ArgumentParser(prog="itree" if is_script else "python3 -m itree", description=DESCRIPTION)
+    parser = argparse.ArgumentParser(prog="itree" if is_script else "python3 -m itree", description=DESCRIPTION + BESIDES)
     parser.add_argument("--version", "-V", action="version", version=f"itree {version}")
     commands = parser.add_subparsers(dest="command", metavar="COMMAND", required=True)
     overlay = commands.add_parser(
@@ -92,6 +115,9 @@ def _parser() -> argparse.ArgumentParser:
         command.add_argument("--rule", choices=list(RULES), default="nonzero", help="nonzero where none is given")
         command.add_argument("--unit", type=float, help="a power of two; the finest that fits where none is given")
         _add_what_is_written(command)
+    valid = commands.add_parser(_VALID, help="which features of one file aren't valid, and why", description=OF_VALID)
+    valid.add_argument("files", nargs=1, metavar="FILE")
+    valid.add_argument("--unit", type=float, help="a power of two; of each feature the finest that fits where none is given")
     return parser
 
 
@@ -145,7 +171,7 @@ def _run_lines(asked: argparse.Namespace) -> None:
 
 def _run(asked: argparse.Namespace) -> None:
     """Answers files."""
-    try:
+    with _faults_of_files():
         task = _task(asked)
         for name in asked.output:
             _files.check_output(name)
@@ -153,6 +179,22 @@ def _run(asked: argparse.Namespace) -> None:
             sources = [_files.read(name, place == 0 and task.has_members(), progress) for place, name in enumerate(asked.files)]
             answer = _tasks.done(task, sources, progress)
             _write(answer, asked.output, progress)
+
+
+def _look(asked: argparse.Namespace) -> int:
+    """Prints which features of a file aren't valid, and gives the status to end with."""
+    with _faults_of_files(), Progress(sys.stderr) as progress:
+        source = _files.read(asked.files[0], True, progress)
+        lines = list(_judged.lines(source, asked.unit, progress))
+    _print(lines)
+    return 1 if lines else 0
+
+
+@contextlib.contextmanager
+def _faults_of_files() -> Iterator[None]:
+    """Raises as Fault what is raised of files."""
+    try:
+        yield
     except (TypeError, ValueError, OverflowError) as fault:
         raise Fault(str(fault)) from None
     except MemoryError:

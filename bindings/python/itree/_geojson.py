@@ -38,6 +38,8 @@ _POLYGONS = re.compile(rb"\[\[r(?:,r)*\](?:,\[r(?:,r)*\])*\]")
 _POINTS = {2: b"[,]", 3: b"[,,]", 4: b"[,,,]"}
 _POLYGON_KIND, _MULTIPOLYGON_KIND, _COLLECTION_KIND = 3, 6, 7
 _KINDS = {"Polygon": _POLYGON_KIND, "MultiPolygon": _MULTIPOLYGON_KIND}
+# Of each kind of collection the member that has its parts, and what each is called.
+_COLLECTIONS = {"GeometryCollection": ("geometries", "geometry"), "FeatureCollection": ("features", "feature")}
 _ONE_RING = struct.Struct("=BIII").pack
 # Where the kind's one byte that isn't 0 stands in well-known binary.
 _AT_KIND = 1 if sys.byteorder == "little" else 4
@@ -76,7 +78,10 @@ def read(file: BinaryIO, name: str, has_members: bool, is_lines: bool, told: Cal
 
     Raises Odd, and what a file raises.
     """
-    return _Reader(name, has_members, is_lines).read(file, told)
+    try:
+        return _Reader(name, has_members, is_lines).read(file, told)
+    except RecursionError:
+        raise Odd from None
 
 
 def head(kind: int, count: int) -> bytes:
@@ -235,8 +240,6 @@ class _Text:
                 if not self._reads_on():
                     raise Odd from None
                 continue
-            except RecursionError:
-                raise Odd from None
             # A number may go on.
             if stop < len(self._text) or isinstance(found, (dict, list, str)) or not self._reads_on():
                 self._at = stop if stop <= len(self._text) else len(self._text)
@@ -438,7 +441,10 @@ def read_slowly(data: bytes, name: str, has_members: bool, is_lines: bool) -> Re
         shapes = shape["features"] if is_many and shape.get("type") == "FeatureCollection" else [shape]
     for place, shape in enumerate(shapes):
         where = f"{name}, feature {place}" if is_many else name
-        binary = _binary_of(_shapes.rings_of_shape(shape, where, False))
+        try:
+            binary = _binary_of(shape, where)
+        except RecursionError:
+            raise ValueError(f"{where}: collections in collections, too deep") from None
         found.add(binary, shape if shape["type"] == "Feature" else {})
     return found.closed(name, is_many, crs)
 
@@ -457,8 +463,21 @@ def _loaded(text: bytes, name: str, before: Optional[int]) -> Dict[str, Any]:
     return shape
 
 
-def _binary_of(rings: Iterable[_shapes.GivenRing]) -> bytes:
-    """The well-known binary of a shape's rings: polygons, each of which begins with a ring that is no hole."""
+def _binary_of(shape: Any, where: str) -> bytes:
+    """The well-known binary of a shape: a collection of its parts, or polygons."""
+    kind = shape.get("type") if isinstance(shape, dict) else None
+    if kind == "Feature" and shape.get("geometry") is not None:
+        return _binary_of(shape["geometry"], where)
+    if isinstance(kind, str) and kind in _COLLECTIONS:
+        member, called = _COLLECTIONS[kind]
+        if isinstance(shape.get(member), list):
+            parts = [_binary_of(part, f"{where}, {called} {place}") for place, part in enumerate(shape[member])]
+            return head(_COLLECTION_KIND, len(parts)) + b"".join(parts)
+    return _binary_of_rings(_shapes.rings_of_shape(shape, where, False))
+
+
+def _binary_of_rings(rings: Iterable[_shapes.GivenRing]) -> bytes:
+    """That of a shape's rings: polygons, each of which begins with a ring that is no hole."""
     polygons: List[List[bytes]] = []
     for ring in rings:
         numbers = _shapes.floats(ring)

@@ -18,7 +18,7 @@ from ._overlay import check_grid
 from ._overlays import Overlays
 from ._polygons import Polygons
 from ._rings import Rings
-from ._shapes import GatheredRings, GivenRing
+from ._shapes import GatheredRings, GivenRing, Shapes
 
 if TYPE_CHECKING:
     from ._each import ShapesOfLayer
@@ -27,7 +27,7 @@ else:
 
 # By the numbers that itree.h has for them.
 _FEW_POINTS, _MEETS_ITSELF, _RINGS_CROSS, _HOLES_OUTSIDE, _OVERLAP, _DISCONNECTED = range(1, 7)
-_VALID = "Valid Geometry"
+VALID = "Valid Geometry"
 _Told = TypeVar("_Told")
 # A place in units, which may be between whole ones.
 _Place = Tuple[Union[int, Fraction], Union[int, Fraction]]
@@ -42,7 +42,7 @@ class Found(NamedTuple):
 
 
 def is_valid(
-    shapes: ShapesOfLayer, *, grid: Optional[Grid] = None, memory_limit: Optional[int] = None
+    shapes: Union[Shapes, ShapesOfLayer], *, grid: Optional[Grid] = None, memory_limit: Optional[int] = None
 ) -> Union[bool, List[bool]]:
     """Whether a shape is valid, as shapely's is_valid; or a list of that for each of many.
 
@@ -81,7 +81,7 @@ def is_valid(
 
 
 def is_valid_reason(
-    shapes: ShapesOfLayer, *, grid: Optional[Grid] = None, memory_limit: Optional[int] = None
+    shapes: Union[Shapes, ShapesOfLayer], *, grid: Optional[Grid] = None, memory_limit: Optional[int] = None
 ) -> Union[str, List[Optional[str]]]:
     """Why a shape isn't valid, and where, in the words of shapely's is_valid_reason; or a list of that for each of many.
 
@@ -237,7 +237,7 @@ def _of_json(polygons: Sequence[Tuple[Any, str]], name: str) -> ShapeLayer:
 def _reason(found: Optional[Found]) -> str:
     """What is wrong, and where, in shapely's words."""
     if found is None:
-        return _VALID
+        return VALID
     words, place = _said(found)
     if place is None:
         return words
