@@ -30,6 +30,9 @@ use std::cmp::Ordering;
 // So few tests of an edge with a crossing are sooner made than the points of crossings are put in order and sought by rows.
 const FEW_TESTS: usize = 1024;
 
+// Fewer yet are sooner made than the pairs of edges that come close are asked.
+const FEWEST_TESTS: usize = 96;
+
 /// A hot point that an edge passes, and none of its ends: the edge's place among all, and how far the point is along it on each axis.
 #[derive(Clone, Copy, Debug, PartialEq, Eq, PartialOrd, Ord)]
 pub struct Stop {
@@ -113,7 +116,7 @@ fn are_asked_by_pairs(edges: &[Edge], crossings: &[Crossing]) -> bool
     requires { All (λ crossing. (crossing.one < length edges.now) × (crossing.other < length edges.now)) crossings.now }
     ensures { result ≡ true → NoneCloses edges.now crossings.now }
 {
-    if edges.len().saturating_mul(crossings.len()) <= FEW_TESTS || run_along_axes(edges) {
+    if edges.len().saturating_mul(crossings.len()) <= FEWEST_TESTS || run_along_axes(edges) {
         return false;
     }
     none_closes(edges, crossings)
