@@ -1,11 +1,10 @@
-// Shapes at which a way to find what meets may be slow, ours beside Clipper and GEOS, and many small polygons.
+// Shapes at which a way to find what meets may be slow, ours beside Clipper and GEOS.
 //
 // HAVE_CLIPPER, HAVE_GEOS: the sides that are there beside ours. The argument is what each number of pieces is divided by;
 // 1 if there is none.
 //
-// A line is as that of overlays.cpp, but the size is a number of pieces, as the workload's name says, or of the points of
-// a small polygon, of which the seconds are those of one call. A side that takes over 60 seconds, or would by its two
-// sizes before, has no line.
+// A line is as that of overlays.cpp, but the size is a number of pieces, as the workload's name says. A side that takes over
+// 60 seconds, or would by its two sizes before, has no line.
 #include <cmath>
 
 #include "overlays/measure.hpp"
@@ -27,9 +26,6 @@ const std::vector<Side> sides{
 
 /// How often each side runs: once where that is long.
 constexpr int TURNS = 5;
-
-/// Small polygons are overlaid again and again for so many seconds.
-constexpr double LEAST = 0.3;
 
 /// The seconds that a side would take if they went on growing as they did; 0 where nothing says it.
 double guessed(const Side &side, std::size_t size) {
@@ -57,47 +53,10 @@ void measure_kind(const Kind &kind, std::size_t divisor) {
     for (const auto count : kind.counts) {
         const std::size_t size = std::max<std::size_t>(count / divisor, 2);
         auto input = kind.of(size);
-        input.workload = "shape: " + kind.name;
+        input.workload = kind.name;
         leave_out_slow(input.workload, size, left);
         measure(input, size, TURNS, left);
     }
-}
-
-/// The seconds of one call among many, on pair after pair, and the area of all answers.
-Run run_often(const Side &side, const std::vector<Input> &pairs, double least) {
-    const auto work = [&] {
-        std::vector<std::unique_ptr<Overlay>> overlays;
-        for (const auto &pair : pairs) overlays.push_back(side.of(pair));
-        const auto runs = [&](int rounds) {
-            return apart::timed<double>([&] {
-                for (int round = 0; round < rounds; round++) {
-                    for (const auto &it : overlays) it->run();
-                }
-                return 0;
-            });
-        };
-        Run it = runs(1);
-        const int rounds = std::max(int(least / it.seconds), 1);
-        if (rounds > 1) it = runs(rounds);
-        it.seconds /= double(rounds) * double(pairs.size());
-        for (const auto &overlay : overlays) it.answer += overlay->area();
-        return it;
-    };
-    return apart::run<double>(side.name, work, MOST);
-}
-
-void measure_small(bool is_spiky, std::size_t points, Operation operation, double least) {
-    const auto pairs = small_pairs(is_spiky, points, operation);
-    const auto runs = [&](const Side &side) { return run_often(side, pairs, least); };
-    const auto found = least_of(sides, TURNS, runs);
-    double length = 0;
-    for (const auto &pair : pairs) length += length_of(pair);
-    const std::string workload = std::string("small: two ") + (is_spiky ? "spiky" : "convex") + ", " +
-                                 (operation == Operation::both ? "intersection" : "union");
-    for (std::size_t place = 0; place < sides.size(); place++) {
-        if (found[place].seconds > 0) print(workload, points, sides[place], found[place], length);
-    }
-    std::fflush(stdout);
 }
 
 }  // namespace
@@ -105,9 +64,4 @@ void measure_small(bool is_spiky, std::size_t points, Operation operation, doubl
 int main(int count, char **words) {
     const std::size_t divisor = count > 1 ? std::strtoull(words[1], nullptr, 10) : 1;
     for (const auto &kind : kinds()) measure_kind(kind, divisor);
-    const double least = LEAST / double(divisor);
-    for (const auto operation : {Operation::both, Operation::either}) {
-        for (const std::size_t points : {4, 10, 30}) measure_small(false, points, operation, least);
-        for (const std::size_t points : {10, 30, 100, 300, 1'000}) measure_small(true, points, operation, least);
-    }
 }
