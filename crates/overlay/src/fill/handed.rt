@@ -1,7 +1,7 @@
 //! The fill of pieces most of which begin where others end: what was below the lowest one that ends is below the lowest one that
 //! begins, and in a column the difference between both sides stays from one point to the next.
 
-ghost use Rattle.std.specs.Prelude.{◌≡◌, ◌≢◌, ◌++◌, ◌-◌, ◌<◌, ◌^◌, ◌+ℤ◌, ◌-ℤ◌, ◌≤ℤ◌, ◌<ℤ◌, pos, ℕ, true, All, AllPairs, IfOk, IfSome, OnOk, OnErr, get_or, length, take};
+ghost use Rattle.std.specs.Prelude.{◌≡◌, ◌≢◌, ◌++◌, ◌-◌, ◌<◌, ◌^◌, ◌+ℤ◌, ◌-ℤ◌, ◌≤ℤ◌, ◌<ℤ◌, pos, ℕ, true, All, AllPairs, IfOk, IfSome, OnOk, OnErr, get_or, length};
 ghost use Rattle.std.specs.List.{filter};
 ghost use Rattle.overlay.specs.Fill.Few.{LastBeginsAt, counts_upto, goes_on};
 ghost use Rattle.overlay.specs.Fill.Handed.{AreEnds, HasLooked, IsCarriedBy, IsHandedBy, carried};
@@ -269,25 +269,8 @@ fn look<A: Allocator>(
 ) -> Result<(), AllocError>
     ensures { OnOk result (live.new.items ≡ filter (goes_on point.x) (live.old.items ++ since.now)) }
 {
-    let kept = pack_going_on(live, point);
-    live.truncate(kept);
+    live.retain(|piece| point.x < piece.edge.x1);
     append_going_on(live, since, point)
-}
-
-// Moves those of the pieces that go on behind the point's x to the front, in their order, and answers how many they are. No branch
-// depends on which do, since it would be guessed wrongly often.
-fn pack_going_on(pieces: &mut [Piece], point: Point) -> usize
-    ensures { take result pieces.new ≡ filter (goes_on point.x) pieces.old }
-{
-    let mut kept = 0;
-    // Of those so far the ones that go on stand in front, and the others are as they were.
-    for at in 0..pieces.len() {
-        let piece = pieces[at];
-        let stays = point.x < piece.edge.x1;
-        pieces[kept] = piece;
-        kept += usize::from(stays);
-    }
-    kept
 }
 
 // Appends those of the pieces that go on behind the point's x.
