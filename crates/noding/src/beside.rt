@@ -135,11 +135,9 @@ fn place_of(own: &[Stop], stop: Stop) -> usize {
     own.partition_point(|known| comes_before(*known, stop))
 }
 
-// Whether the one stop of an edge comes before the other. All comparisons are made, since a branch between them would be guessed
-// wrongly often.
+// Whether the one stop of an edge comes before the other.
 fn comes_before(one: Stop, other: Stop) -> bool {
-    let is_level = one.along_x == other.along_x;
-    (one.along_x < other.along_x) | (is_level & (one.along_y < other.along_y))
+    one.along_x < other.along_x || one.along_x == other.along_x && one.along_y < other.along_y
 }
 
 // Appends the stops of the edge, which is at this place, at those of the other one, but for such as are among its own. Most often
