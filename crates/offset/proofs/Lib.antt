@@ -6,6 +6,7 @@ pub mod DiamondLemmas
 pub mod ErosionLemmas
 pub mod JoinLemmas
 pub mod LineLemmas
+pub mod NearLemmas
 pub mod OffsetLemmas
 pub mod OppositeLemmas
 pub mod PieceLemmas

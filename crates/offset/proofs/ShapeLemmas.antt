@@ -81,6 +81,14 @@ two-at corners index next side after inside at is after_is =
     (after_is ∙ ap (λ (n : ℕ). get_or (sides corners) n nowhere) (at ∙ ap (λ (n : ℕ). next_place index n) (sym size)))
     ∙ sym (neighbour-at (sides corners) index nowhere (nowhere, nowhere) (omega (arith, size, inside)))
 
+-- Before the last place it is the next number.
+pub next-inside : (index count : ℕ) → index + 1 < count → next_place index count ≡ index + 1
+next-inside index count inside = by (nat_eq (index + 1) count) refl
+  where
+    by : (t : Bool) → nat_eq (index + 1) count ≡ t → cond t 0 (index + 1) ≡ index + 1
+    by true is = absurd (omega (arith, eqb-true (index + 1) count is, inside))
+    by false isnt = refl
+
 -- The next place is within, too.
 pub next-within : (index count : ℕ) → index < count → next_place index count < count
 next-within index count inside = by (nat_eq (index + 1) count) refl

@@ -132,7 +132,7 @@ fn raw_of_rings_back<A: Allocator + Copy>(
     ensures ok { IfOk result (λ raw. raw.items ≡ raw_edges shape.now (map backwards (rings_of points.now 0 ends.now))) }
     ensures fault { IfErr result (IsRawFault (raw_edges shape.now (map backwards (rings_of points.now 0 ends.now)))) }
 {
-    let mut raw = Vec::new(alloc);
+    let mut raw = Vec::with_capacity(alloc, points.len())?;
     for ring in 0..ends.len() {
         let back = ring_back(alloc, ring_at(points, ends, ring))?;
         append_raw_of_ring(shape, &back, &mut raw)?;
@@ -144,7 +144,7 @@ fn raw_of_rings_back<A: Allocator + Copy>(
 fn ring_back<A: Allocator>(alloc: A, ring: &[Point]) -> Result<Vec<Point, A>, AllocError>
     ensures { IfOk result (λ back. back.items ≡ backwards ring.now) }
 {
-    let mut back = Vec::new(alloc);
+    let mut back = Vec::with_capacity(alloc, ring.len())?;
     for index in 0..ring.len() {
         back.push(ring[place_back(index, ring.len())])?;
     }

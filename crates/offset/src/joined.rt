@@ -128,7 +128,7 @@ fn joined_of_rings<A: Allocator>(
     ensures ok { IfOk result (λ raw. raw.items ≡ joined_edges join shape.now (rings_of points.now 0 ends.now)) }
     ensures fault { IfErr result (IsRawFault (joined_edges join shape.now (rings_of points.now 0 ends.now))) }
 {
-    let mut raw = Vec::new(alloc);
+    let mut raw = Vec::with_capacity(alloc, points.len())?;
     for ring in 0..ends.len() {
         append_joined_of_ring(shape, ring_at(points, ends, ring), join, &mut raw)?;
     }

@@ -4,13 +4,17 @@ ghost use Rattle.std.specs.Prelude.{◌≡◌, ◌++◌, IfErr, OnOk, map};
 ghost use Rattle.plane.specs.Ends.{end_of};
 ghost use Rattle.offset.specs.Faults.{IsRawFault};
 ghost use Rattle.offset.specs.Joins.{bevel, bevelled_joint, joined_of_ring, joined_of_two};
+ghost use Rattle.offset.specs.Near.{IsOfFurthest};
 ghost use Rattle.offset.specs.Raw.{moved_edge};
 ghost use Rattle.offset.specs.Shape.{IsConvexAroundOrigin};
 
 use crate::circles::swept;
 use crate::fault::MinkowskiFault;
 use crate::mitres::append_mitre;
-use crate::raw::{append_fan, append_raw_of_two, append_ways, furthest, push_moved};
+use crate::raw::{
+    append_fan, append_raw_of_two, append_ways, corner_behind, first_place, furthest, place_near,
+    push_moved,
+};
 use crate::shape::{next_place, side_at, turn};
 use plane::edge::{Edge, edge_between, end_of};
 use plane::point::Point;
@@ -39,7 +43,7 @@ pub fn append_joined_of_ring<A: Allocator>(
     ensures ok { OnOk result (edges.new.items ≡ edges.old.items ++ joined_of_ring join corners.now ring.now) }
     ensures fault { IfErr result (IsRawFault (joined_of_ring join corners.now ring.now)) }
 {
-    let mut near = 0;
+    let mut near = first_place(corners, ring);
     for index in 0..ring.len() {
         let edge = side_at(ring, index);
         let next = side_at(ring, next_place(index, ring.len()));
@@ -48,7 +52,8 @@ pub fn append_joined_of_ring<A: Allocator>(
     Ok(())
 }
 
-// Appends that of an edge and the next one, whose furthest corners are looked for at the place `near` first.
+// Appends that of an edge and the next one. The furthest corner of the edge stands behind the side at the place `near`, and from
+// then on that of the next one does.
 fn append_joined_of_two<A: Allocator>(
     corners: &[Point],
     edge: Edge,
@@ -57,13 +62,15 @@ fn append_joined_of_two<A: Allocator>(
     near: &mut usize,
     edges: &mut Vec<Edge, A>,
 ) -> Result<(), MinkowskiFault>
-    requires { IsConvexAroundOrigin corners.now }
+    requires shape { IsConvexAroundOrigin corners.now }
+    requires near { IsOfFurthest corners.now edge near.old }
     ensures ok { OnOk result (edges.new.items ≡ edges.old.items ++ joined_of_two join corners.now (edge, next)) }
     ensures fault { IfErr result (IsRawFault (joined_of_two join corners.now (edge, next))) }
+    ensures near { OnOk result (IsOfFurthest corners.now next near.new) }
 {
     match join {
         Join::Round => append_raw_of_two(corners, edge, next, near, edges),
-        Join::Bevel => append_bevelled(corners, edge, next, edges),
+        Join::Bevel => append_bevelled(corners, edge, next, near, edges),
         Join::Mitre(limit) => append_mitred(corners, edge, next, limit, near, edges),
     }
 }
@@ -77,9 +84,11 @@ fn append_mitred<A: Allocator>(
     near: &mut usize,
     edges: &mut Vec<Edge, A>,
 ) -> Result<(), MinkowskiFault>
-    requires { IsConvexAroundOrigin corners.now }
+    requires shape { IsConvexAroundOrigin corners.now }
+    requires near { IsOfFurthest corners.now edge near.old }
     ensures ok { OnOk result (edges.new.items ≡ edges.old.items ++ joined_of_two (Join.Mitre limit) corners.now (edge, next)) }
     ensures fault { IfErr result (IsRawFault (joined_of_two (Join.Mitre limit) corners.now (edge, next))) }
+    ensures near { OnOk result (IsOfFurthest corners.now next near.new) }
 {
     append_raw_of_two(corners, edge, next, near, edges)?;
     append_mitre(corners, edge, next, limit, edges)
@@ -90,12 +99,17 @@ fn append_bevelled<A: Allocator>(
     corners: &[Point],
     edge: Edge,
     next: Edge,
+    near: &mut usize,
     edges: &mut Vec<Edge, A>,
 ) -> Result<(), MinkowskiFault>
+    requires shape { IsConvexAroundOrigin corners.now }
+    requires near { IsOfFurthest corners.now edge near.old }
     ensures ok { OnOk result (edges.new.items ≡ edges.old.items ++ joined_of_two Join.Bevel corners.now (edge, next)) }
     ensures fault { IfErr result (IsRawFault (joined_of_two Join.Bevel corners.now (edge, next))) }
+    ensures near { OnOk result (IsOfFurthest corners.now next near.new) }
 {
-    push_moved(furthest(corners, edge), edge, edges)?;
+    push_moved(corner_behind(corners, *near), edge, edges)?;
+    *near = place_near(corners, next, *near);
     if turn(edge, next) > 0 {
         append_bevel(corners, edge, next, edges)
     } else {

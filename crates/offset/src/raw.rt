@@ -1,12 +1,13 @@
 //! The raw curve around the sum of rings and a shape.
 
-ghost use Rattle.std.specs.Prelude.{◌≡◌, ◌<◌, ◌++◌, ◌∷◌, [], IfErr, IfOk, OnOk, filter, length, map};
+ghost use Rattle.std.specs.Bool.{OnTrue};
+ghost use Rattle.std.specs.Prelude.{◌≡◌, ◌<◌, ◌++◌, ◌∷◌, [], true, IfErr, IfOk, OnOk, filter, get_or, length, map};
 ghost use Rattle.plane.specs.Ends.{edge_between, end_of};
 ghost use Rattle.overlay.specs.Contours.Rings.{has_two_ends};
 ghost use Rattle.offset.specs.declared.fault.MinkowskiFault.TheVariants.{Range};
 ghost use Rattle.offset.specs.Faults.{IsRawFault};
-ghost use Rattle.offset.specs.Near.{corner_behind, sides_at};
-ghost use Rattle.offset.specs.Raw.{IsPointIn32Bits, fan, furthest, is_furthest, is_of_fan, joint, moved, moved_edge, raw_of_ring, raw_of_two, ways, ways_by};
+ghost use Rattle.offset.specs.Near.{IsOfFurthest, corner_behind, sides_at};
+ghost use Rattle.offset.specs.Raw.{IsPointIn32Bits, fan, furthest, is_furthest, is_of_fan, joint, moved, moved_edge, nowhere, raw_of_ring, raw_of_two, ways, ways_by};
 ghost use Rattle.offset.specs.Shape.{IsConvexAroundOrigin, sides};
 
 use crate::fault::MinkowskiFault;
@@ -25,7 +26,7 @@ pub fn append_raw_of_ring<A: Allocator>(
     ensures ok { OnOk result (edges.new.items ≡ edges.old.items ++ raw_of_ring corners.now ring.now) }
     ensures fault { IfErr result (IsRawFault (raw_of_ring corners.now ring.now)) }
 {
-    let mut near = 0;
+    let mut near = first_place(corners, ring);
     for index in 0..ring.len() {
         let edge = side_at(ring, index);
         let next = side_at(ring, next_place(index, ring.len()));
@@ -34,8 +35,18 @@ pub fn append_raw_of_ring<A: Allocator>(
     Ok(())
 }
 
-/// Appends that of an edge and the next one. The furthest corner of the edge is looked for at the place `near` first, and that of
-/// the next one there from then on.
+/// The place of the side behind which the furthest corner of the ring's first edge stands, if it has one.
+pub fn first_place(corners: &[Point], ring: &[Point]) -> usize
+    ensures { 0 < length ring.now → IsOfFurthest corners.now (get_or (sides ring.now) 0 nowhere) result }
+{
+    if ring.is_empty() {
+        return 0;
+    }
+    furthest_place(corners, side_at(ring, 0))
+}
+
+/// Appends that of an edge and the next one. The furthest corner of the edge stands behind the side at the place `near`, and from
+/// then on that of the next one does.
 pub fn append_raw_of_two<A: Allocator>(
     corners: &[Point],
     edge: Edge,
@@ -43,33 +54,42 @@ pub fn append_raw_of_two<A: Allocator>(
     near: &mut usize,
     edges: &mut Vec<Edge, A>,
 ) -> Result<(), MinkowskiFault>
-    requires { IsConvexAroundOrigin corners.now }
+    requires shape { IsConvexAroundOrigin corners.now }
+    requires near { IsOfFurthest corners.now edge near.old }
     ensures ok { OnOk result (edges.new.items ≡ edges.old.items ++ raw_of_two corners.now (edge, next)) }
     ensures fault { IfErr result (IsRawFault (raw_of_two corners.now (edge, next))) }
+    ensures near { OnOk result (IsOfFurthest corners.now next near.new) }
 {
-    let from = furthest_near(corners, edge, near);
+    let from = corner_behind(corners, *near);
     push_moved(from, edge, edges)?;
-    if differ(from, furthest_near(corners, next, near)) {
-        append_joint(corners, edge, next, edges)
+    *near = place_near(corners, next, *near);
+    let to = corner_behind(corners, *near);
+    if differ(from, to) {
+        append_joint(corners, edge, next, from, to, edges)
     } else {
         Ok(())
     }
 }
 
-// Appends what joins the edge, moved, with the next one.
+// Appends what joins the edge, moved by the one corner, with the next one, moved by the other.
 fn append_joint<A: Allocator>(
     corners: &[Point],
     edge: Edge,
     next: Edge,
+    from: Point,
+    to: Point,
     edges: &mut Vec<Edge, A>,
 ) -> Result<(), MinkowskiFault>
+    requires from { from ≡ furthest corners.now edge }
+    requires to { to ≡ furthest corners.now next }
+    requires apart { has_two_ends (edge_between from to) ≡ true }
     ensures ok { OnOk result (edges.new.items ≡ edges.old.items ++ joint corners.now edge next) }
     ensures fault { IfErr result (IsRawFault (joint corners.now edge next)) }
 {
     if turn(edge, next) > 0 {
         append_fan(corners, edge, next, edges)
     } else {
-        append_ways(corners, edge, next, edges)
+        append_ways_by(from, to, end_of(edge), edges)
     }
 }
 
@@ -140,19 +160,32 @@ pub fn furthest(corners: &[Point], edge: Edge) -> Point
     corner_behind(corners, furthest_place(corners, edge))
 }
 
-// The same, where it may well stand behind the side at this place: so it is looked for there first. Then that is the place where it
-// was found.
-fn furthest_near(corners: &[Point], edge: Edge, near: &mut usize) -> Point
+/// The place of the side behind which it stands. It is looked for first at this place, and beside it: that of an edge before this
+/// one.
+pub fn place_near(corners: &[Point], edge: Edge, near: usize) -> usize
     requires { IsConvexAroundOrigin corners.now }
-    ensures { result ≡ furthest corners.now edge }
+    ensures { IsOfFurthest corners.now edge result }
 {
-    let place = *near;
-    if place < corners.len() && is_furthest_at(corners, edge, place) {
-        return corner_behind(corners, place);
+    if is_of_furthest(corners, edge, near) {
+        return near;
     }
-    let found = furthest_place(corners, edge);
-    *near = found;
-    corner_behind(corners, found)
+    let after = near.saturating_add(1);
+    if is_of_furthest(corners, edge, after) {
+        return after;
+    }
+    let before = near.saturating_sub(1);
+    if is_of_furthest(corners, edge, before) {
+        return before;
+    }
+    furthest_place(corners, edge)
+}
+
+// Whether there is a side at this place, and the corner behind it is the furthest.
+fn is_of_furthest(corners: &[Point], edge: Edge, place: usize) -> bool
+    requires { IsConvexAroundOrigin corners.now }
+    ensures { OnTrue result (IsOfFurthest corners.now edge place) }
+{
+    place < corners.len() && is_furthest_at(corners, edge, place)
 }
 
 // The place of the side behind which the furthest corner stands, or the one behind all where there is none.
@@ -167,8 +200,8 @@ fn furthest_place(corners: &[Point], edge: Edge) -> usize
     corners.len()
 }
 
-// The corner behind the side at this place, or the origin where there is no such side.
-fn corner_behind(corners: &[Point], place: usize) -> Point
+/// The corner behind the side at this place, or the origin where there is no such side.
+pub fn corner_behind(corners: &[Point], place: usize) -> Point
     ensures { result ≡ corner_behind corners.now place }
 {
     if place < corners.len() {

@@ -168,7 +168,7 @@ fn raw_of_rings<A: Allocator>(
     ensures ok { IfOk result (λ raw. raw.items ≡ raw_edges shape.now (rings_of points.now 0 ends.now)) }
     ensures fault { IfErr result (IsRawFault (raw_edges shape.now (rings_of points.now 0 ends.now))) }
 {
-    let mut raw = Vec::new(alloc);
+    let mut raw = Vec::with_capacity(alloc, points.len())?;
     for ring in 0..ends.len() {
         append_raw_of_ring(shape, ring_at(points, ends, ring), &mut raw)?;
     }

@@ -14,7 +14,7 @@ returns-in_err-append_joined_of_ring-clause-fault g c =
     let shape = c.args.shape.now in
     let rings = rings_of c.args.points.now 0 c.args.ends.now in
     let size = rings-size c.args.points.now 0 c.args.ends.now in
-    handed-on c.from_residual.result _ (IsRawFault (joined_edges c.args.join shape rings)) c.from_residual.ensures.1
+    handed-on c.from_residual-in_err-append_joined_of_ring.result _ (IsRawFault (joined_edges c.args.join shape rings)) c.from_residual-in_err-append_joined_of_ring.ensures.1
     (made-fails (joined_of_ring c.args.join shape) rings c.loop-ring.ring [] _ (omega (arith, size, c.loop-ring-test.true))
     (subst (λ (ring : List Point). IsRawFault (joined_of_ring c.args.join shape ring) c.in_err-append_joined_of_ring.field-0.0) c.ring_at.ensures c.in_err-append_joined_of_ring.ensures.fault))
 

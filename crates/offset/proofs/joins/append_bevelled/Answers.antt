@@ -17,9 +17,10 @@ pub returns-in_err-push_moved-clause-fault : goal.returns-in_err-push_moved-clau
 returns-in_err-push_moved-clause-fault g c =
     let corners = c.args.corners.now in
     let edge = c.args.edge in
+    let from = c.corner_behind.ensures ∙ c.requires.near in
     handed-on c.from_residual.result _ (IsRawFault (joined_of_two Bevel corners (edge, c.args.next))) c.from_residual.ensures.1
     (earlier-fails (moved_edge (furthest corners edge) edge ∷ []) (bevelled_joint corners edge c.args.next) _
-    (subst (λ (by : Point). IsRawFault (moved_edge by edge ∷ []) c.in_err-push_moved.field-0.0) c.furthest.ensures c.in_err-push_moved.ensures.fault))
+    (subst (λ (by : Point). IsRawFault (moved_edge by edge ∷ []) c.in_err-push_moved.field-0.0) from c.in_err-push_moved.ensures.fault))
 
 -- the edge moved stands there, and what joins it with the next one behind it
 behind : (before : List Edge) (moved one two : List Edge) (joint : List Edge) → one ≡ (before ++ moved) → two ≡ (one ++ joint) → two ≡ (before ++ (moved ++ joint))
@@ -35,7 +36,7 @@ returns-then-turn-gt0-clause-ok g c =
     let edge = c.args.edge in
     let next = c.args.next in
     let left = chosen _ true (map (moved_edge (end_of edge)) (bevel corners edge next)) (ways corners edge next) (passes-lt (pos 0) (turn edge next) (omega (arith, ints, c.turn.ensures, c.if-turn-gt0.true))) in
-    let first = c.in_ok-push_moved.ensures.ok ∙ ap (λ (by : Point). c.args.edges.now.items ++ moved_edge by edge ∷ []) c.furthest.ensures in
+    let first = c.in_ok-push_moved.ensures.ok ∙ ap (λ (by : Point). c.args.edges.now.items ++ moved_edge by edge ∷ []) (c.corner_behind.ensures ∙ c.requires.near) in
     on_ok_weaker c.append_bevel.result
     (λ second. behind c.args.edges.now.items (moved_edge (furthest corners edge) edge ∷ []) _ _ (bevelled_joint corners edge next) first (second ∙ ap (λ (edges : List Edge). c.push_moved.new.edges.items ++ edges) (sym left)))
     c.append_bevel.ensures.ok
@@ -50,13 +51,19 @@ returns-then-turn-gt0-clause-fault g c =
     (λ fault fails. later-fails (moved_edge (furthest corners edge) edge ∷ []) (bevelled_joint corners edge next) fault (subst (λ (edges : List Edge). IsRawFault edges fault) (sym left) fails))
     c.append_bevel.ensures.fault
 
+pub returns-then-turn-gt0-clause-near : goal.returns-then-turn-gt0-clause-near
+returns-then-turn-gt0-clause-near g c = on_ok_weaker c.append_bevel.result (λ made. c.place_near.ensures) c.append_bevel.ensures.ok
+
+pub returns-else-turn-gt0-clause-near : goal.returns-else-turn-gt0-clause-near
+returns-else-turn-gt0-clause-near g c = on_ok_weaker c.append_ways.result (λ made. c.place_near.ensures) c.append_ways.ensures.ok
+
 pub returns-else-turn-gt0-clause-ok : goal.returns-else-turn-gt0-clause-ok
 returns-else-turn-gt0-clause-ok g c =
     let corners = c.args.corners.now in
     let edge = c.args.edge in
     let next = c.args.next in
     let other = chosen _ false (map (moved_edge (end_of edge)) (bevel corners edge next)) (ways corners edge next) (fails-lt (pos 0) (turn edge next) (omega (arith, ints, c.turn.ensures, c.if-turn-gt0.false))) in
-    let first = c.in_ok-push_moved.ensures.ok ∙ ap (λ (by : Point). c.args.edges.now.items ++ moved_edge by edge ∷ []) c.furthest.ensures in
+    let first = c.in_ok-push_moved.ensures.ok ∙ ap (λ (by : Point). c.args.edges.now.items ++ moved_edge by edge ∷ []) (c.corner_behind.ensures ∙ c.requires.near) in
     on_ok_weaker c.append_ways.result
     (λ second. behind c.args.edges.now.items (moved_edge (furthest corners edge) edge ∷ []) _ _ (bevelled_joint corners edge next) first (second ∙ ap (λ (edges : List Edge). c.push_moved.new.edges.items ++ edges) (sym other)))
     c.append_ways.ensures.ok

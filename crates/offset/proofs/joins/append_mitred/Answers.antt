@@ -29,3 +29,6 @@ returns-clause-fault g c =
     IfErr-weaker c.append_mitre.result _ (IsRawFault (joined_of_two (Mitre c.args.limit) corners (c.args.edge, c.args.next)))
     (λ fault fails. later-fails (raw_of_two corners (c.args.edge, c.args.next)) (mitre c.args.limit corners c.args.edge c.args.next) fault fails)
     c.append_mitre.ensures.fault
+
+pub returns-clause-near : goal.returns-clause-near
+returns-clause-near g c = on_ok_weaker c.append_mitre.result (λ made. c.in_ok-append_raw_of_two.ensures.near) c.append_mitre.ensures.ok
