@@ -52,6 +52,10 @@ pub use Rattle.overlay.proofs.WindsLemmas.Homes.{AreAtHome, home-once, left-own}
 pub use Rattle.overlay.proofs.NestedLemmas.{nest-once}
 pub use Rattle.overlay.proofs.WindsLemmas.Nested.{outlined-once}
 pub use Rattle.overlay.proofs.WindsLemmas.Pieced.{fewer-touches, pieces-each, pieces-outlined, touches-shared}
+-- Where two edges of outlines meet they do in one point, an end of one of them: rings of polygons touch, and don't cross. The edges
+-- of one outline meet only at common ends.
+pub use Rattle.overlay.proofs.TouchLemmas.AllTouch.{all-touch}
+pub use Rattle.overlay.proofs.TouchLemmas.OwnNoded.{outline-noded}
 -- Of the polygons of an overlay and edges along an axis that were among those given, no two cross at a point with fractions: so an
 -- overlay of these polygons with such edges is exact at every point, by `exact-everywhere`.
 pub use Rattle.overlay.proofs.UncrossedLemmas.Crossing.{none-cross}

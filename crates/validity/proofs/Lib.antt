@@ -1,7 +1,9 @@
 pub mod Alone
+pub mod AnswerLemmas
 pub mod Apart
 pub mod Backwards
 pub mod Bounds
+pub mod Callers
 pub mod Checked
 pub mod Circles
 pub mod Contacts
@@ -12,3 +14,4 @@ pub mod Graphs
 pub mod Meetings
 pub mod Own
 pub mod Touching
+pub mod ValidLemmas

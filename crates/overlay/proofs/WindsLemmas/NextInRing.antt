@@ -33,8 +33,8 @@ Differ one other = ¬ (HaveSameEnds one other)
 never : true ≡ false → ⊥
 never h = cc
 
--- the edge is one of these or it isn't
-held-or : (mine : List Edge) (edge : Edge) → Contains mine edge ⊎ (¬ (Contains mine edge))
+-- The edge is one of these or it isn't.
+pub held-or : (mine : List Edge) (edge : Edge) → Contains mine edge ⊎ (¬ (Contains mine edge))
 held-or mine edge = by (holds mine edge) refl
   where
     by : (t : Bool) → holds mine edge ≡ t → Contains mine edge ⊎ (¬ (Contains mine edge))
@@ -53,8 +53,8 @@ apart-rings ring others distinct edge held other of held_too =
     (All-contains (λ one. All (Differ one) (joined others)) ring edge (AllPairs-across Differ ring (joined others) distinct) held)
     (Contains-in_flat_map (λ (r : List Edge). r) others other edge of held_too) (inl refl)
 
--- so an edge tells its ring
-one-ring : (rings : List (List Edge)) → AreDistinct (joined rings) → (one other : List Edge) → Contains rings one → Contains rings other → (edge : Edge) → Contains one edge → Contains other edge → one ≡ other
+-- So an edge tells its ring.
+pub one-ring : (rings : List (List Edge)) → AreDistinct (joined rings) → (one other : List Edge) → Contains rings one → Contains rings other → (edge : Edge) → Contains one edge → Contains other edge → one ≡ other
 one-ring [] distinct one other (k, within, is) second edge held held_too = absurd (omega (arith, within))
 one-ring (ring ∷ rings) distinct one other (zero, within, is) (zero, within', is') edge held held_too = sym is ∙ is'
 one-ring (ring ∷ rings) distinct one other (zero, within, is) (suc k, within', is') edge held held_too =
@@ -133,7 +133,7 @@ module _ (outer : List Edge) (holes : List (List Edge)) (noded : AreNoded (flat_
         omega (arith, ints, sum, here, rest)
 
     -- All together wind once there. So no hole winds there.
-    hole-none : (hole : List Edge) → Contains holes hole → left_of hole edge ≡ pos 0
+    pub hole-none : (hole : List Edge) → Contains holes hole → left_of hole edge ≡ pos 0
     hole-none hole of =
         by (left_of edges edge) (left_of outer edge) (left_of (joined holes) edge) (left_of hole edge) (left-append outer (joined holes) edge) (left-once edges noded distinct sloped once edge among) by-outer (by-hole hole of)
         (least holes (λ h held. held) hole of)
@@ -142,6 +142,15 @@ module _ (outer : List Edge) (holes : List (List Edge)) (noded : AreNoded (flat_
         by a o r h sum one upto (inl none) less = none
         by a o r h sum one (inl is) (inr below) less = absurd (omega (arith, ints, sum, one, is, below, less))
         by a o r h sum one (inr is) (inr below) less = absurd (omega (arith, ints, sum, one, is, below, less))
+
+    -- and the outer ring winds once there
+    pub outer-once : left_of outer edge ≡ pos 1
+    outer-once =
+        by (left_of edges edge) (left_of outer edge) (left_of (joined holes) edge) (left-append outer (joined holes) edge) (left-once edges noded distinct sloped once edge among) by-outer (most holes (λ h held. held))
+      where
+        by : (a o r : ℤ) → a ≡ (o +ℤ r) → a ≡ pos 1 → IsUpto (pos 1) o → r ≤ℤ pos 0 → o ≡ pos 1
+        by a o r sum one (inl is) less = is
+        by a o r sum one (inr is) less = absurd (omega (arith, ints, sum, one, is, less))
 
   -- ---- around a point of a ring
 

@@ -42,8 +42,8 @@ Differ one other = ¬ (HaveSameEnds one other)
 
 -- ---- sheared edges
 
--- the sheared edges of rings, ring by ring
-by-rings : (f : Edge → Edge) (rings : List (List Point)) → map f (flat_map ring_edges rings) ≡ flat_map (λ (ring : List Edge). ring) (map (λ ring. map f (ring_edges ring)) rings)
+-- The sheared edges of rings, ring by ring.
+pub by-rings : (f : Edge → Edge) (rings : List (List Point)) → map f (flat_map ring_edges rings) ≡ flat_map (λ (ring : List Edge). ring) (map (λ ring. map f (ring_edges ring)) rings)
 by-rings f [] = refl
 by-rings f (ring ∷ rings) = map-append f (ring_edges ring) (flat_map ring_edges rings) ∙ ap (λ (list : List Edge). map f (ring_edges ring) ++ list) (by-rings f rings)
 
@@ -77,28 +77,28 @@ module _ (outer : List Point) (holes : List (List Point)) (outwards : is_counter
   some : 0 < n
   some = omega (arith, wide)
 
-  abbrev slant_ring : List Point → List Edge
+  abbrev pub slant_ring : List Point → List Edge
   slant_ring ring = map (sheared_edge n) (ring_edges ring)
 
-  abbrev all : List Edge
+  abbrev pub all : List Edge
   all = flat_map (λ (ring : List Edge). ring) (slant_ring outer ∷ map slant_ring holes)
 
-  are : map (sheared_edge n) mine ≡ all
+  pub are : map (sheared_edge n) mine ≡ all
   are = by-rings (sheared_edge n) rings
 
   closed : IsClosed mine
   closed test = rings-closed test rings
 
-  noded : AreNoded all
+  pub noded : AreNoded all
   noded = subst AreNoded are (AreNoded-sheared n some mine borders.noded)
 
-  distinct : AreDistinct all
+  pub distinct : AreDistinct all
   distinct = subst AreDistinct are (AreDistinct-sheared n some mine borders.distinct)
 
-  sloped : All (λ edge. edge.x0 ≢ edge.x1) all
+  pub sloped : All (λ edge. edge.x0 ≢ edge.x1) all
   sloped = subst (λ (list : List Edge). All (λ edge. edge.x0 ≢ edge.x1) list) are (All-among (λ (edge : Edge). edge.x0 ≢ edge.x1) (map (sheared_edge n) mine) (slanted-sloped mine borders.two_ends n b wide low))
 
-  once : (point : RationalPoint) → IsOneOrNone (winding all point)
+  pub once : (point : RationalPoint) → IsOneOrNone (winding all point)
   once point = subst (λ (list : List Edge). IsOneOrNone (winding list point)) are (sheared-once mine borders closed n b wide low point)
 
   even : AreBalanced all
@@ -118,10 +118,10 @@ module _ (outer : List Point) (holes : List (List Point)) (outwards : is_counter
   ring-low : (ring : List Point) → Contains rings ring → All (IsLow b) (ring_edges ring)
   ring-low ring of = All-among (IsLow b) (ring_edges ring) (λ edge held. All-contains (IsLow b) mine edge low (Contains-in_flat_map ring_edges rings ring edge of held))
 
-  outer-left : HaveOnLeft (pos 1) (slant_ring outer)
+  pub outer-left : HaveOnLeft (pos 1) (slant_ring outer)
   outer-left = let here = Contains-here outer holes in (All-contains Runs rings outer runs here (ring-low outer here)).0 outwards
 
-  holes-left : All (HaveOnLeft (pos 0)) (map slant_ring holes)
+  pub holes-left : All (HaveOnLeft (pos 0)) (map slant_ring holes)
   holes-left = All-among (HaveOnLeft (pos 0)) (map slant_ring holes) (λ slanted held. (
       let (hole, of, is) = Contains-from_map slant_ring holes slanted held in
       let inside = Contains-there outer holes hole of in
@@ -152,8 +152,8 @@ module _ (outer : List Point) (holes : List (List Point)) (outwards : is_counter
 
 -- ---- polygons
 
--- the edges of a polygon are distinct as those of all are
-own-distinct : (polygons : List (List (List Point))) → AreDistinct (polygon_edges polygons) → (polygon : List (List Point)) → Contains polygons polygon → AreDistinct (flat_map ring_edges polygon)
+-- The edges of a polygon are distinct as those of all are.
+pub own-distinct : (polygons : List (List (List Point))) → AreDistinct (polygon_edges polygons) → (polygon : List (List Point)) → Contains polygons polygon → AreDistinct (flat_map ring_edges polygon)
 own-distinct [] distinct polygon (k, within, is) = absurd (omega (arith, within))
 own-distinct (first ∷ others) distinct polygon (zero, within, is) =
     subst (λ (p : List (List Point)). AreDistinct (flat_map ring_edges p)) is
