@@ -2,6 +2,7 @@ pub mod BackLemmas
 pub mod ChainedLemmas
 pub mod CircleLemmas
 pub mod CoverLemmas
+pub mod CutLemmas
 pub mod DiamondLemmas
 pub mod ErosionLemmas
 pub mod JoinLemmas

@@ -120,8 +120,8 @@ module _ (corners : List Point) (convex : IsConvexAroundOrigin corners) (rings :
   last-of : (point : RationalPoint) → winding edges point ≡ bounds.outer → LastOfSide edges point
   last-of point none vertex x y some only ahead ending starting off = ends-last edges bounds point none off vertex some only
 
-  -- each of the lines has two ends
-  lines-proper : All (λ line. start_of line ≢ end_of line) (lines (sides corners) edges)
+  -- Each of the lines has two ends.
+  pub lines-proper : All (λ line. start_of line ≢ end_of line) (lines (sides corners) edges)
   lines-proper = All-among (λ (line : Edge). start_of line ≢ end_of line) (lines (sides corners) edges) each
     where
       of_two : (edge side : Edge) → Contains edges edge → Contains (sides corners) side → (line : Edge) → Contains (lines_of_two edge side) line → start_of line ≢ end_of line

@@ -33,10 +33,11 @@ use Rattle.overlay.proofs.WindsLemmas.Pieced.{pieces-each}
 use Rattle.offset.specs.Faults.{IsPointFault, IsRawFault}
 use Rattle.offset.specs.Minkowski.{IsAround, IsErosion, IsErosionFault, IsGrown, IsMinkowski, IsShrunk, IsSumFault, IsWound}
 use Rattle.offset.specs.Lines.{AreGrownLines, IsOfPaths, raw_of_paths}
+use Rattle.offset.specs.Cuts.{IsCurve}
 use Rattle.offset.specs.Raw.{GoesThrough, raw_edges, raw_inside}
 use Rattle.offset.specs.Shape.{IsConvexAroundOrigin, opposite_shape}
 use Rattle.offset.specs.Sum.{IsOfErosion, IsOfSum, IsOfSumWith}
-use Rattle.offset.proofs.OffsetLemmas.{winds-only}
+use Rattle.offset.proofs.CutLemmas.Sums.{curve-only}
 use Rattle.offset.proofs.ErosionLemmas.{winds-erosion}
 use Rattle.offset.proofs.LineLemmas.Lines.{paths-cover, paths-natural, paths-sum}
 use Rattle.offset.proofs.RawLemmas.{fails-lt, passes-lt}
@@ -123,20 +124,22 @@ around-of region raw polygons wound winds = record {
     none : (w : ℤ) → w ≡ pos 0 → count (is_result NonZero Union w (pos 0)) ≡ pos 0
     none w is = ap (λ z. count (is_result NonZero Union z (pos 0))) is
 
--- What the raw curve winds around is the sum.
-sum-of : (corners : List Point) → IsConvexAroundOrigin corners → (rings : List (List Point)) (bounds : BoundOnce (flat_map ring_edges rings)) → bounds.outer ≡ pos 0 → (polygons : List (List (List Point))) → IsWound NonZero (raw_edges corners rings) polygons
-    → IsMinkowski corners (flat_map ring_edges rings) (raw_edges corners rings) polygons
-sum-of corners convex rings bounds outside polygons wound =
-    around-of (λ (point : RationalPoint). IsOfSum (flat_map ring_edges rings) corners point) (raw_edges corners rings) polygons wound (λ point off. winds-only corners convex rings bounds outside point off)
+-- What a raw curve winds around is the sum.
+sum-of : (corners : List Point) → IsConvexAroundOrigin corners → (rings : List (List Point)) (bounds : BoundOnce (flat_map ring_edges rings)) → bounds.outer ≡ pos 0 → (raw : List Edge) → IsCurve corners rings raw → (polygons : List (List (List Point))) → IsWound NonZero raw polygons
+    → IsMinkowski corners (flat_map ring_edges rings) raw polygons
+sum-of corners convex rings bounds outside raw curve polygons wound =
+    around-of (λ (point : RationalPoint). IsOfSum (flat_map ring_edges rings) corners point) raw polygons wound (λ point off. curve-only corners convex rings bounds outside raw curve point off)
 
--- What the inside grows to, from the raw curve of rings that bound it.
-pub grown : (rule : FillRule) (edges : List Edge) (corners : List Point) → IsConvexAroundOrigin corners → (rings : List (List Point)) (raw : List Edge) (polygons : List (List (List Point))) → IsBoundary rule Union (real_edges edges) [] rings → raw ≡ raw_edges corners rings → IsWound NonZero raw polygons → IsGrown rule edges corners polygons
-grown rule edges corners convex rings raw polygons bounds is wound = record {
+-- What the inside grows to, from a raw curve of rings that bound it.
+pub grown : (rule : FillRule) (edges : List Edge) (corners : List Point) → IsConvexAroundOrigin corners → (rings : List (List Point)) (raw : List Edge) (polygons : List (List (List Point))) → IsBoundary rule Union (real_edges edges) [] rings → IsCurve corners rings raw → IsWound NonZero raw polygons → IsGrown rule edges corners polygons
+grown rule edges corners convex rings raw polygons bounds curve wound = record {
   rings = rings;
   bounds = bounds;
   inside = λ point exactly. exact-real edges [] rule Union (flat_map ring_edges rings) bounds.bounds.everywhere point (subst (λ (all : List Edge). All (IsExactAt all point) all) (sym (append-nil edges)) exactly);
-  wound = subst (λ (all : List Edge). IsWound NonZero all polygons) is wound;
-  sum = sum-of corners convex rings (bound-once rule Union (real_edges edges) [] rings bounds) refl polygons (subst (λ (all : List Edge). IsWound NonZero all polygons) is wound);
+  raw = raw;
+  curve = curve;
+  wound = wound;
+  sum = sum-of corners convex rings (bound-once rule Union (real_edges edges) [] rings bounds) refl raw curve polygons wound;
 }
 
 -- What the raw curve within rings winds around below 0 is the erosion.

@@ -2,6 +2,7 @@
 pub mod Chained
 pub mod Circle
 pub mod CircleFaults
+pub mod Cuts
 pub mod Faults
 pub mod Joins
 pub mod Lines

@@ -16,6 +16,7 @@ use Rattle.overlay.specs.Nesting.{PolygonWindsOnce}
 use Rattle.overlay.specs.OnePiece.{TouchAlongNoCircle}
 use Rattle.overlay.specs.Overlay.{polygon_edges}
 use Rattle.overlay.specs.Polygons.{HasSignedArea, IsPolygon, rings_of}
+use Rattle.offset.specs.Cuts.{IsCurve}
 use Rattle.offset.specs.Raw.{GoesThrough, IsIn32Bits, IsPointIn32Bits, raw_edges, raw_inside}
 use Rattle.offset.specs.Shape.{opposite_shape}
 use Rattle.offset.specs.Sum.{IsOfErosion, IsOfSum}
@@ -72,9 +73,12 @@ pub record IsGrown (rule : FillRule) (edges : List Edge) (corners : List Point) 
   pub bounds : IsBoundary rule Union (real_edges edges) [] rings
   -- they wind around the points of it, if each edge isn't moved among all, or runs along an axis, or isn't near the point
   pub inside : (point : RationalPoint) → All (IsExactAt edges point) edges → winding (flat_map ring_edges rings) point ≡ result_at rule Union edges [] point
-  -- the polygons are around what the raw curve of these rings winds around, and that is their sum with the shape
-  pub wound : IsWound NonZero (raw_edges corners rings) polygons
-  pub sum : IsMinkowski corners (flat_map ring_edges rings) (raw_edges corners rings) polygons
+  -- the raw curve of these rings, of which some safe corners may be cut
+  pub raw : List Edge
+  pub curve : IsCurve corners rings raw
+  -- the polygons are around what it winds around, and that is the sum of the rings with the shape
+  pub wound : IsWound NonZero raw polygons
+  pub sum : IsMinkowski corners (flat_map ring_edges rings) raw polygons
 
 -- The polygons are what the inside of edges, by the rule, becomes when the shape is taken along outside.
 pub record IsShrunk (rule : FillRule) (edges : List Edge) (corners : List Point) (polygons : List (List (List Point))) : Type 0 where

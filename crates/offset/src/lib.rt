@@ -5,6 +5,7 @@
 mod angular;
 mod chained;
 mod circles;
+mod cuts;
 mod erosion;
 mod fault;
 mod joined;

@@ -10,14 +10,15 @@ ghost use Rattle.overlay.specs.Contours.Rings.{ring_edges};
 ghost use Rattle.overlay.specs.Polygons.{Appends, AreAsBefore, AreExtended};
 ghost use Rattle.overlay.specs.Rings.{AreEnds, HasEnds, edges_of, real_edges, rings_of};
 ghost use Rattle.overlay.specs.declared.fill.rules.Operation.TheVariants.{Union};
+ghost use Rattle.offset.specs.Cuts.{IsCurve};
 ghost use Rattle.offset.specs.Faults.{IsRawFault};
 ghost use Rattle.offset.specs.Minkowski.{IsGrown, IsSumFault, IsWound};
 ghost use Rattle.offset.specs.Raw.{IsIn32Bits, raw_edges};
 ghost use Rattle.offset.specs.Shape.{IsConvexAroundOrigin};
 
 use crate::chained::append_boundary_of;
+use crate::cuts::append_curve_of_ring;
 use crate::fault::MinkowskiFault;
-use crate::raw::append_raw_of_ring;
 use crate::shape::is_convex_around_origin;
 use i_tree::Refusal;
 use i_tree::status::exp::StatusCollection;
@@ -115,7 +116,7 @@ where
     requires shape { IsConvexAroundOrigin shape.now }
     ensures ok { IfOk result (λ raw. (rings : List (List Point))
         × IsBoundary rule Union (real_edges (edges_of polygons.entry)) [] rings
-        × (raw.items ≡ raw_edges shape.now rings)) }
+        × IsCurve shape.now rings raw.items) }
     ensures fault { IfErr result (IsSumFault rule (edges_of polygons.entry) shape.now) }
     ensures empty { OnOk result (C.stored status.new ≡ []) }
 {
@@ -157,7 +158,7 @@ where
 }
 
 // That of the rings that stop at these ends.
-fn raw_of_rings<A: Allocator>(
+fn raw_of_rings<A: Allocator + Copy>(
     alloc: A,
     shape: &[Point],
     points: &[Point],
@@ -165,12 +166,12 @@ fn raw_of_rings<A: Allocator>(
 ) -> Result<Vec<Edge, A>, MinkowskiFault>
     requires ends { AreEnds 0 ends.now (length points.now) }
     requires shape { IsConvexAroundOrigin shape.now }
-    ensures ok { IfOk result (λ raw. raw.items ≡ raw_edges shape.now (rings_of points.now 0 ends.now)) }
+    ensures ok { IfOk result (λ raw. IsCurve shape.now (rings_of points.now 0 ends.now) raw.items) }
     ensures fault { IfErr result (IsRawFault (raw_edges shape.now (rings_of points.now 0 ends.now))) }
 {
     let mut raw = Vec::with_capacity(alloc, points.len())?;
     for ring in 0..ends.len() {
-        append_raw_of_ring(shape, ring_at(points, ends, ring), &mut raw)?;
+        append_curve_of_ring(shape, ring_at(points, ends, ring), &mut raw)?;
     }
     Ok(raw)
 }

@@ -276,14 +276,14 @@ module _ (corners : List Point) (convex : IsConvexAroundOrigin corners) where
     fan-natural : (edge next : Edge) → All (λ side. pos 0 ≤ℤ winding (part_of_fan (end_of edge) side) point) (fan corners edge next)
     fan-natural edge next = All-among (λ (side : Edge). pos 0 ≤ℤ winding (part_of_fan (end_of edge) side) point) (fan corners edge next) (part-natural edge next)
 
-    fan_winds-natural : (edge next : Edge) → pos 0 ≤ℤ fan_winds edge next
+    pub fan_winds-natural : (edge next : Edge) → pos 0 ≤ℤ fan_winds edge next
     fan_winds-natural edge next = by (int_lt (pos 0) (turn edge next))
       where
         by : (t : Bool) → pos 0 ≤ℤ cond t (total (λ side. winding (part_of_fan (end_of edge) side) point) (fan corners edge next)) (pos 0)
         by true = total-natural (λ side. winding (part_of_fan (end_of edge) side) point) (fan corners edge next) (fan-natural edge next)
         by false = omega (arith, ints)
 
-    parts-natural : (two : Edge × Edge) → start_of two.0 ≢ end_of two.0 → pos 0 ≤ℤ parts_wind two
+    pub parts-natural : (two : Edge × Edge) → start_of two.0 ≢ end_of two.0 → pos 0 ≤ℤ parts_wind two
     parts-natural two proper =
         let one = (edge-band-winds two.0 proper).natural in
         let other = fan_winds-natural two.0 two.1 in

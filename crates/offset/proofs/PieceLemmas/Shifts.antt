@@ -258,6 +258,13 @@ module _ (k m : ℕ) (some : 0 < m) (point : RationalPoint) where
           the_point : ℤ → ℤ → Point
           the_point a b = record { x = a; y = b }
 
+  beside-lines : (lines : List Edge) → All (λ line. start_of line ≢ end_of line) lines → All (IsSmall k m point.n) lines → All (λ line. left_by line (shifted k m some point) ≢ pos 0) lines
+  beside-lines [] two small = All-nil (λ (line : Edge). left_by line (shifted k m some point) ≢ pos 0)
+  beside-lines (line ∷ lines) two small =
+      All-cons (λ (l : Edge). left_by l (shifted k m some point) ≢ pos 0) line lines
+      (beside-line line (All-head (λ (l : Edge). start_of l ≢ end_of l) line lines two) (All-head (IsSmall k m point.n) line lines small))
+      (beside-lines lines (All-tail (λ (l : Edge). start_of l ≢ end_of l) line lines two) (All-tail (IsSmall k m point.n) line lines small))
+
 -- ---- a shift that is small for all
 
 abbrev sum_of : (Edge → ℕ) → List Edge → ℕ
@@ -342,7 +349,7 @@ pub from-generic : (outer : ℤ) (edges raw lines : List Edge) (corners : List P
     → ((point : RationalPoint) → All (λ line. left_by line point ≢ pos 0) lines → IsOfSumBeyond outer edges corners point → winding raw point ≢ outer)
     → (point : RationalPoint) → IsOfSumBeyond outer edges corners point → winding raw point ≢ outer
 from-generic outer edges raw lines corners two generic point is none =
-    generic (shifted k m some point) (beside lines two (third point.n (omega arith)))
+    generic (shifted k m some point) (beside-lines k m some point lines two (third point.n (omega arith)))
     (of_sum-shifted outer k m some edges corners point is (winding-shifted k m some is.from edges (first is.from.n (omega arith))))
     (winding-shifted k m some point raw (second point.n (omega arith)) ∙ none)
   where
@@ -373,9 +380,23 @@ from-generic outer edges raw lines corners two generic point is none =
     third : (n : ℕ) → n ≤ most → All (IsSmall k m n) lines
     third n upto = All-behind (IsSmall k m n) raw lines (All-behind (IsSmall k m n) edges (raw ++ lines) (small n upto))
 
-    beside : (lines : List Edge) → All (λ line. start_of line ≢ end_of line) lines → All (IsSmall k m point.n) lines → All (λ line. left_by line (shifted k m some point) ≢ pos 0) lines
-    beside [] two short = All-nil (λ (line : Edge). left_by line (shifted k m some point) ≢ pos 0)
-    beside (line ∷ lines) two short =
-        All-cons (λ (l : Edge). left_by l (shifted k m some point) ≢ pos 0) line lines
-        (beside-line k m some point line (All-head (λ (l : Edge). start_of l ≢ end_of l) line lines two) (All-head (IsSmall k m point.n) line lines short))
-        (beside lines (All-tail (λ (l : Edge). start_of l ≢ end_of l) line lines two) (All-tail (IsSmall k m point.n) line lines short))
+-- Around some point that lies on none of some lines, too, edges wind as often as around a point.
+pub somewhere-generic : (raw lines : List Edge) → All (λ line. start_of line ≢ end_of line) lines → (point : RationalPoint)
+    → (other : RationalPoint) × All (λ line. left_by line other ≢ pos 0) lines × (winding raw other ≡ winding raw point)
+somewhere-generic raw lines two point = (
+  shifted k m some point,
+  beside-lines k m some point lines two (All-behind (IsSmall k m point.n) raw lines small),
+  winding-shifted k m some point raw (All-front (IsSmall k m point.n) raw lines small),
+)
+  where
+    k : ℕ
+    k = steepness (raw ++ lines) point.n
+
+    m : ℕ
+    m = fineness (raw ++ lines) point.n
+
+    some : 0 < m
+    some = some-fineness (raw ++ lines) point.n
+
+    small : All (IsSmall k m point.n) (raw ++ lines)
+    small = all-small (raw ++ lines) point.n point.n (omega arith)

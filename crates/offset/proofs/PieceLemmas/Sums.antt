@@ -15,8 +15,8 @@ use Rattle.plane.specs.Meet.Edges.{IsOf, RationalPoint}
 use Rattle.overlay.specs.Areas.{swept}
 use Rattle.overlay.specs.Contours.Rings.{ring_edges}
 use Rattle.noding.specs.Windings.{winding}
-use Rattle.offset.specs.Shape.{IsConvexAroundOrigin, IsLeftOf, neighbours, sides}
-use Rattle.offset.specs.Raw.{GoesThrough, furthest, moved, moved_edge, raw_edges}
+use Rattle.offset.specs.Shape.{IsConvexAroundOrigin, IsLeftOf, neighbours, sides, turn}
+use Rattle.offset.specs.Raw.{GoesThrough, fan, furthest, moved, moved_edge, raw_edges}
 use Rattle.offset.specs.Sum.{IsOfSumBeyond}
 use Rattle.plane.proofs.MeetLemmas.Identities.{IsWithin-product, Term, identity, minus, number, plus, scaled, times, unscaled}
 use Rattle.noding.proofs.SnapLemmas.Numbers.{Natural, n_of, natural}
@@ -24,7 +24,7 @@ use Rattle.overlay.proofs.FillLemmas.Premises.{All-among}
 use Rattle.offset.proofs.CoverLemmas.Numbers.{above-product, positive-factor, positive-product}
 use Rattle.offset.proofs.CoverLemmas.Sides.{apart, whole}
 use Rattle.offset.proofs.CoverLemmas.Vectors.{crossed, crossing, less_terms, term, way}
-use Rattle.offset.proofs.PieceLemmas.Parts.{IsInBand, IsInPart, fan-held, follows-held, furthest-beside, moved-held, raw-some, side-held}
+use Rattle.offset.proofs.PieceLemmas.Parts.{Follows, IsInBand, IsInPart, fan-held, follows-held, furthest-beside, moved-held, raw-some, side-held}
 use Rattle.offset.proofs.PieceLemmas.Convex.{furthest-is, furthest-pair}
 use Rattle.offset.proofs.PieceLemmas.Rounds.{IsJoined, neighbours-held, next-held, ring-joined, start-held}
 use Rattle.offset.proofs.PieceLemmas.Shifts.{from-abs, upto-abs}
@@ -466,25 +466,33 @@ module _ (corners : List Point) (convex : IsConvexAroundOrigin corners) where
       let (two, pair, is) = furthest-pair corners convex edge proper in
       subst (λ (c : Point). Contains corners c) (furthest-is corners convex edge two pair is) (start-held corners two.1 (neighbours-held (sides corners) two.0 two.1 pair).1)
 
-  module _ (outer : ℤ) (rings : List (List Point)) (proper : All (λ edge. start_of edge ≢ end_of edge) (flat_map ring_edges rings)) (near : HaveNear outer (flat_map ring_edges rings)) (point : RationalPoint)
-      (off : All (λ edge. ¬ (GoesThrough edge point)) (raw_edges corners rings)) where
-    of-band : IsInBand corners rings point → IsOfSumBeyond outer (flat_map ring_edges rings) corners point
-    of-band is =
-        let held = (follows-held corners convex rings proper is.edge is.next is.follows).0 in
-        let real = All-contains (λ (e : Edge). start_of e ≢ end_of e) (flat_map ring_edges rings) is.edge proper held in
-        sum-of_band outer (flat_map ring_edges rings) corners convex near point is.edge held (furthest corners is.edge) (furthest-held is.edge real) (furthest-beside corners convex is.edge real)
-        is.behind is.from is.before is.upto
-        (All-contains (λ (e : Edge). ¬ (GoesThrough e point)) (raw_edges corners rings) (moved_edge (furthest corners is.edge) is.edge) off (moved-held corners convex rings proper is.edge is.next is.follows))
+  module _ (outer : ℤ) (rings : List (List Point)) (proper : All (λ edge. start_of edge ≢ end_of edge) (flat_map ring_edges rings)) (near : HaveNear outer (flat_map ring_edges rings)) (point : RationalPoint) where
+    module _ (off_moved : (edge next : Edge) → Follows rings edge next → ¬ (GoesThrough (moved_edge (furthest corners edge) edge) point))
+        (off_side : (edge next side : Edge) → Follows rings edge next → pos 0 <ℤ turn edge next → Contains (fan corners edge next) side → ¬ (GoesThrough (moved_edge (end_of edge) side) point)) where
+      of-band : IsInBand corners rings point → IsOfSumBeyond outer (flat_map ring_edges rings) corners point
+      of-band is =
+          let held = (follows-held corners convex rings proper is.edge is.next is.follows).0 in
+          let real = All-contains (λ (e : Edge). start_of e ≢ end_of e) (flat_map ring_edges rings) is.edge proper held in
+          sum-of_band outer (flat_map ring_edges rings) corners convex near point is.edge held (furthest corners is.edge) (furthest-held is.edge real) (furthest-beside corners convex is.edge real)
+          is.behind is.from is.before is.upto
+          (off_moved is.edge is.next is.follows)
 
-    of-part : IsInPart corners rings point → IsOfSumBeyond outer (flat_map ring_edges rings) corners point
-    of-part is =
-        let held = (follows-held corners convex rings proper is.edge is.next is.follows).0 in
-        let side_held = fan-held corners convex point is.edge is.next is.side is.among in
-        sum-of_part outer (flat_map ring_edges rings) corners convex near point is.edge held is.side (All-contains (λ (e : Edge). pos 0 <ℤ swept e) (sides corners) is.side convex.left side_held) (start-held corners is.side side_held) (end-held is.side side_held)
-        is.from is.before is.upto
-        (All-contains (λ (e : Edge). ¬ (GoesThrough e point)) (raw_edges corners rings) (moved_edge (end_of is.edge) is.side) off (side-held corners convex rings proper is.edge is.next is.side is.follows is.left is.among))
+      of-part : IsInPart corners rings point → IsOfSumBeyond outer (flat_map ring_edges rings) corners point
+      of-part is =
+          let held = (follows-held corners convex rings proper is.edge is.next is.follows).0 in
+          let side_held = fan-held corners convex point is.edge is.next is.side is.among in
+          sum-of_part outer (flat_map ring_edges rings) corners convex near point is.edge held is.side (All-contains (λ (e : Edge). pos 0 <ℤ swept e) (sides corners) is.side convex.left side_held) (start-held corners is.side side_held) (end-held is.side side_held)
+          is.from is.before is.upto
+          (off_side is.edge is.next is.side is.follows is.left is.among)
 
-    -- Where the raw curve winds so around a point that isn't of it, this is of the sum.
-    pub not-too-much : winding (raw_edges corners rings) point ≢ outer → IsOfSumBeyond outer (flat_map ring_edges rings) corners point
-    not-too-much winds =
-        ⊎_elim (λ wound. sum-itself outer (flat_map ring_edges rings) corners convex point wound) (λ parts. ⊎_elim of-band of-part parts) (raw-some corners convex rings proper point outer winds)
+      -- Where the raw curve winds so around a point that is on no edge moved, and on no side of a fan, this is of the sum.
+      pub not-too-much-off : winding (raw_edges corners rings) point ≢ outer → IsOfSumBeyond outer (flat_map ring_edges rings) corners point
+      not-too-much-off winds =
+          ⊎_elim (λ wound. sum-itself outer (flat_map ring_edges rings) corners convex point wound) (λ parts. ⊎_elim of-band of-part parts) (raw-some corners convex rings proper point outer winds)
+
+    -- So it is where the raw curve winds so around a point that isn't of it.
+    pub not-too-much : All (λ edge. ¬ (GoesThrough edge point)) (raw_edges corners rings) → winding (raw_edges corners rings) point ≢ outer → IsOfSumBeyond outer (flat_map ring_edges rings) corners point
+    not-too-much off =
+        not-too-much-off
+        (λ edge next follows. All-contains (λ (e : Edge). ¬ (GoesThrough e point)) (raw_edges corners rings) (moved_edge (furthest corners edge) edge) off (moved-held corners convex rings proper edge next follows))
+        (λ edge next side follows left among. All-contains (λ (e : Edge). ¬ (GoesThrough e point)) (raw_edges corners rings) (moved_edge (end_of edge) side) off (side-held corners convex rings proper edge next side follows left among))

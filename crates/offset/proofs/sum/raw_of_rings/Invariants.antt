@@ -1,9 +1,8 @@
-use Rattle.std.proofs.Common.{◌≡◌, take}
-use Rattle.std.specs.List.{flat_map}
+use Rattle.std.proofs.Common.{take}
 use Rattle.overlay.specs.Rings.{rings_of}
-use Rattle.offset.specs.Raw.{raw_of_ring}
+use Rattle.offset.specs.Cuts.{IsCurve}
 use Rattle.offset.proofs.sum.raw_of_rings.Given as goal
 
--- those of the rings so far
+-- that of the rings so far
 abbrev pub invariant-loop-ring : goal.invariant-loop-ring
-invariant-loop-ring g l = l.raw.items ≡ flat_map (raw_of_ring l.shape) (take l.ring (rings_of l.points 0 l.ends))
+invariant-loop-ring g l = IsCurve l.shape (take l.ring (rings_of l.points 0 l.ends)) l.raw.items
