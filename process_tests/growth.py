@@ -67,7 +67,8 @@ def moved(edge, by):
 
 
 def raw_curve(rings, shape):
-    """The edges of the curve around the sum of rings, which bound the inside, and a shape."""
+    """The edges of the curve around the sum of rings, which bound the inside, and a shape; and what it may take in the place of
+    two ways where edges turn right."""
     sides, found = edges_of([shape]), []
     for ring in rings:
         edges = edges_of([ring])
@@ -79,7 +80,8 @@ def raw_curve(rings, shape):
                 found += [moved(side, at) for side in fan]
             elif furthest(shape, way) != furthest(shape, on):
                 (x, y), (z, w) = furthest(shape, way), furthest(shape, on)
-                found += [(at[0] + x, at[1] + y, *at), (*at, at[0] + z, at[1] + w)]
+                before, behind = (at[0] + x, at[1] + y), (at[0] + z, at[1] + w)
+                found += [(*before, *at), (*at, *behind), (*before, *behind)]
     return found
 
 
@@ -212,8 +214,25 @@ def quarter_and_slope(x, y):
     return 3, x * 144 // -y
 
 
+def some_bay(random):
+    """A block with a bay of short edges in its upper side, along which the border turns right."""
+    x, y = random.randint(1, 9), 3
+    ways = {(-1, 0)} | {(random.randint(-3, 0), random.randint(-3, 3)) for _ in range(random.randint(3, 9))} - {(0, 0)}
+    down = sorted((it for it in ways if it[1] < 0), key=lambda it: it[0] / it[1])
+    up = sorted((it for it in ways if it[1] > 0), key=lambda it: it[0] / it[1])
+    bay = [(x, y)]
+    for across, rise in (*down, *(it for it in ways if it[1] == 0), *up):
+        if -11 < y + rise < 3 and x + across > -19:
+            x, y = x + across, y + rise
+            bay.append((x, y))
+    return [(-20, -12), (15, -12), (15, 3), *bay, *([(x, 3)] if y < 3 else []), (-20, 3)]
+
+
 def some_rings(random, has_hole):
-    """Rings that bound an inside: a polygon around a point, maybe with a hole, and maybe another one that lies beside it."""
+    """Rings that bound an inside: a polygon around a point, maybe with a hole, and maybe another one that lies beside it; or a
+    block with a bay."""
+    if not random.randrange(4):
+        return [some_bay(random)]
     ways = some_ways(random)
     rings = [[(3 * x, 3 * y) for x, y in ways]]
     if has_hole:
