@@ -18,7 +18,7 @@ use plane::point::Point;
 use std::alloc::Allocator;
 
 // So many edges before a corner, and behind it, are looked at.
-const MOST_STEPS: usize = 64;
+const MOST_STEPS: usize = 1024;
 
 /// The corners of what is cut off at the end of an edge: that end, and where it is moved by the edge's furthest corner and by that
 /// of the next edge.
