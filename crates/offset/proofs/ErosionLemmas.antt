@@ -1,5 +1,5 @@
--- The raw curve within rings that bound a region winds -1 times around each point from which the shape lies inside, and 0 times or
--- more often around any other.
+-- A raw curve within rings that bound a region, cut where that is safe, winds -1 times around each point from which the shape lies
+-- inside, and 0 times or more often around any other.
 use Rattle.std.proofs.Common.{◌≡◌, ◌≢◌, ◌⊎◌, inl, inr, ⊎_elim, ℕ, ◌*◌, ℤ, pos, negsuc, ◌+ℤ◌, ◌-ℤ◌, ◌*ℤ◌, ◌≤ℤ◌, ◌<ℤ◌, List, map, refl, ap, subst, sym, ◌∙◌, arith}
 use Rattle.std.specs.List.{All, flat_map}
 use Rattle.std.proofs.lemmas.Int.{ints}
@@ -11,13 +11,14 @@ use Rattle.plane.proofs.MeetLemmas.Identities.{identity, minus, number, plus, ti
 use Rattle.noding.specs.Windings.{IsClosed, winding}
 use Rattle.noding.proofs.SnapLemmas.Numbers.{n_of}
 use Rattle.overlay.specs.Contours.Rings.{ring_edges}
-use Rattle.offset.specs.Raw.{GoesThrough, backwards, raw_inside}
+use Rattle.offset.specs.Cuts.{IsCurve}
+use Rattle.offset.specs.Raw.{GoesThrough, backwards}
 use Rattle.offset.specs.Shape.{IsConvexAroundOrigin, IsIn, opposite_shape}
 use Rattle.offset.specs.Sum.{IsMovedBy, IsOfErosion, IsOfSumBeyond}
 use Rattle.offset.proofs.BackLemmas.{back_edges, bound-back, outer-back, two-back, winding-back}
-use Rattle.offset.proofs.OffsetLemmas.{winds-sum}
+use Rattle.offset.proofs.CutLemmas.Curves.{curve-closed}
+use Rattle.offset.proofs.CutLemmas.Sums.{curve-sum}
 use Rattle.offset.proofs.OppositeLemmas.{convex-opposite, of-opposite, opposite-of, opposite_point}
-use Rattle.offset.proofs.PieceLemmas.Closed.{raw-closed}
 use Rattle.offset.proofs.SideLemmas.Inner.{BoundOnce}
 
 -- a sum, told from one of the two: one axis
@@ -32,16 +33,13 @@ moved-back n m r p q k is =
 moved-on : (n m r : ℕ) (p q k : ℤ) → (pos (n * m) *ℤ q) ≡ (pos r *ℤ ((p *ℤ pos m) +ℤ (k *ℤ pos n))) → (pos (r * m) *ℤ p) ≡ (pos n *ℤ ((q *ℤ pos m) +ℤ ((pos 0 -ℤ k) *ℤ pos r)))
 moved-on n m r p q k is = moved-back r m n q p k is
 
--- The raw curve within rings is closed.
-pub inside-closed : (corners : List Point) → IsConvexAroundOrigin corners → (rings : List (List Point)) → All (λ edge. start_of edge ≢ end_of edge) (flat_map ring_edges rings) → IsClosed (raw_inside corners rings)
-inside-closed corners convex rings proper = raw-closed (opposite_shape corners) (convex-opposite corners convex) (map backwards rings) (two-back rings proper)
+-- A raw curve within rings is closed.
+pub inside-closed : (corners : List Point) → IsConvexAroundOrigin corners → (rings : List (List Point)) (raw : List Edge) → IsCurve (opposite_shape corners) (map backwards rings) raw → All (λ edge. start_of edge ≢ end_of edge) (flat_map ring_edges rings) → IsClosed raw
+inside-closed corners convex rings raw is proper = curve-closed (opposite_shape corners) (convex-opposite corners convex) (map backwards rings) raw is (two-back rings proper)
 
-module _ (corners : List Point) (convex : IsConvexAroundOrigin corners) (rings : List (List Point)) (bounds : BoundOnce (flat_map ring_edges rings)) (outside : bounds.outer ≡ pos 0) where
+module _ (corners : List Point) (convex : IsConvexAroundOrigin corners) (rings : List (List Point)) (bounds : BoundOnce (flat_map ring_edges rings)) (outside : bounds.outer ≡ pos 0) (raw : List Edge) (curve : IsCurve (opposite_shape corners) (map backwards rings) raw) where
   abbrev edges : List Edge
   edges = flat_map ring_edges rings
-
-  abbrev raw : List Edge
-  raw = raw_inside corners rings
 
   -- how often the rings wind the other way round around points inside
   abbrev outer : ℤ
@@ -79,7 +77,7 @@ module _ (corners : List Point) (convex : IsConvexAroundOrigin corners) (rings :
         → (IsOfErosion edges corners point × (winding raw point ≡ negsuc 0)) ⊎ ((¬ (IsOfErosion edges corners point)) × (pos 0 ≤ℤ winding raw point))
     winds-erosion off =
         by (subst (λ (out : ℤ). (IsOfSumBeyond out (back_edges rings) (opposite_shape corners) point × (out <ℤ winding raw point)) ⊎ ((¬ (IsOfSumBeyond out (back_edges rings) (opposite_shape corners) point)) × (winding raw point ≡ out)))
-        (outer-back rings bounds) (winds-sum (opposite_shape corners) (convex-opposite corners convex) (map backwards rings) (bound-back rings bounds) point off))
+        (outer-back rings bounds) (curve-sum (opposite_shape corners) (convex-opposite corners convex) (map backwards rings) (bound-back rings bounds) raw curve point off))
       where
         by : (IsOfSumBeyond outer (back_edges rings) (opposite_shape corners) point × (outer <ℤ winding raw point)) ⊎ ((¬ (IsOfSumBeyond outer (back_edges rings) (opposite_shape corners) point)) × (winding raw point ≡ outer))
             → (IsOfErosion edges corners point × (winding raw point ≡ negsuc 0)) ⊎ ((¬ (IsOfErosion edges corners point)) × (pos 0 ≤ℤ winding raw point))

@@ -213,9 +213,9 @@ module _ (corners : List Point) (convex : IsConvexAroundOrigin corners) (rings :
   pub not-too-little : (point : RationalPoint) → IsOfSumBeyond bounds.outer edges corners point → winding (raw_edges corners rings) point ≢ bounds.outer
   not-too-little point sum = from-generic bounds.outer edges (raw_edges corners rings) (lines (sides corners) edges) corners lines-proper winds-generic point sum
 
-  -- Around a point that isn't of it, it winds more often than around those outside where this is of the sum, and else just so
-  -- often.
-  pub winds-sum : (point : RationalPoint) → All (λ edge. ¬ (GoesThrough edge point)) (raw_edges corners rings)
+  -- around a point that isn't of it, it winds more often than around those outside where this is of the sum, and else just so
+  -- often
+  winds-sum : (point : RationalPoint) → All (λ edge. ¬ (GoesThrough edge point)) (raw_edges corners rings)
       → (IsOfSumBeyond bounds.outer edges corners point × (bounds.outer <ℤ winding (raw_edges corners rings) point)) ⊎ ((¬ (IsOfSumBeyond bounds.outer edges corners point)) × (winding (raw_edges corners rings) point ≡ bounds.outer))
   winds-sum point off =
       by_lt_z bounds.outer (winding (raw_edges corners rings) point)

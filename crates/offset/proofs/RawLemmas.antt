@@ -117,11 +117,6 @@ made-more make xs index d before so_far inside so =
     (sym (ap (flat_map make) (take_more xs index d inside) ∙ flat_map-append make (take index xs) (get_or xs index d ∷ [])
     ∙ ap (λ (edges : List Edge). flat_map make (take index xs) ++ edges) (flat_map-cons make (get_or xs index d) [] ∙ append-nil (make (get_or xs index d)))))
 
--- Lists that are made of each item's image are made of each item.
-pub made-of_map : {X Y : Type 0} (make : Y → List Edge) (f : X → Y) (xs : List X) → flat_map make (map f xs) ≡ flat_map (λ x. make (f x)) xs
-made-of_map make f [] = refl
-made-of_map make f (x ∷ xs) = flat_map-cons make (f x) (map f xs) ∙ ap (λ (edges : List Edge). make (f x) ++ edges) (made-of_map make f xs) ∙ sym (flat_map-cons (λ y. make (f y)) x xs)
-
 -- One of the edges that are made of each item.
 pub mapped-fails : {X : Type 0} (make : X → Edge) (xs : List X) (index : ℕ) (d : X) (fault : MinkowskiFault) → index < length xs → IsRawFault (make (get_or xs index d) ∷ []) fault → IsRawFault (map make xs) fault
 mapped-fails make [] index d fault inside fails = absurd (omega (arith, inside))

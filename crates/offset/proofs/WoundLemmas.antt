@@ -34,7 +34,7 @@ use Rattle.offset.specs.Faults.{IsPointFault, IsRawFault}
 use Rattle.offset.specs.Minkowski.{IsAround, IsErosion, IsErosionFault, IsGrown, IsMinkowski, IsShrunk, IsSumFault, IsWound}
 use Rattle.offset.specs.Lines.{AreGrownLines, IsOfPaths, raw_of_paths}
 use Rattle.offset.specs.Cuts.{IsCurve}
-use Rattle.offset.specs.Raw.{GoesThrough, raw_edges, raw_inside}
+use Rattle.offset.specs.Raw.{GoesThrough, backwards, raw_edges, raw_inside}
 use Rattle.offset.specs.Shape.{IsConvexAroundOrigin, opposite_shape}
 use Rattle.offset.specs.Sum.{IsOfErosion, IsOfSum, IsOfSumWith}
 use Rattle.offset.proofs.CutLemmas.Sums.{curve-only}
@@ -142,10 +142,10 @@ grown rule edges corners convex rings raw polygons bounds curve wound = record {
   sum = sum-of corners convex rings (bound-once rule Union (real_edges edges) [] rings bounds) refl raw curve polygons wound;
 }
 
--- What the raw curve within rings winds around below 0 is the erosion.
-erosion-of : (corners : List Point) → IsConvexAroundOrigin corners → (rings : List (List Point)) (bounds : BoundOnce (flat_map ring_edges rings)) → bounds.outer ≡ pos 0 → (polygons : List (List (List Point))) → IsWound Negative (raw_inside corners rings) polygons
-    → IsErosion corners (flat_map ring_edges rings) (raw_inside corners rings) polygons
-erosion-of corners convex rings bounds outside polygons wound = record {
+-- What a raw curve within rings winds around below 0 is the erosion.
+erosion-of : (corners : List Point) → IsConvexAroundOrigin corners → (rings : List (List Point)) (bounds : BoundOnce (flat_map ring_edges rings)) → bounds.outer ≡ pos 0 → (raw : List Edge) → IsCurve (opposite_shape corners) (map backwards rings) raw
+    → (polygons : List (List (List Point))) → IsWound Negative raw polygons → IsErosion corners (flat_map ring_edges rings) raw polygons
+erosion-of corners convex rings bounds outside raw curve polygons wound = record {
   each = wound.each;
   three_points = wound.three_points;
   directed = wound.directed;
@@ -155,9 +155,9 @@ erosion-of corners convex rings bounds outside polygons wound = record {
   one_piece = wound.one_piece;
   once = wound.once;
   exact = λ point off exactly. ⊎_elim
-      (λ (found : IsOfErosion (flat_map ring_edges rings) corners point × (winding (raw_inside corners rings) point ≡ negsuc 0)). inl (found.0, wound.exact point exactly ∙ one (winding (raw_inside corners rings) point) found.1))
-      (λ (left : (¬ (IsOfErosion (flat_map ring_edges rings) corners point)) × (pos 0 ≤ℤ winding (raw_inside corners rings) point)). inr (left.0, wound.exact point exactly ∙ none (winding (raw_inside corners rings) point) left.1))
-      (winds-erosion corners convex rings bounds outside point off);
+      (λ (found : IsOfErosion (flat_map ring_edges rings) corners point × (winding raw point ≡ negsuc 0)). inl (found.0, wound.exact point exactly ∙ one (winding raw point) found.1))
+      (λ (left : (¬ (IsOfErosion (flat_map ring_edges rings) corners point)) × (pos 0 ≤ℤ winding raw point)). inr (left.0, wound.exact point exactly ∙ none (winding raw point) left.1))
+      (winds-erosion corners convex rings bounds outside raw curve point off);
 }
   where
     one : (w : ℤ) → w ≡ negsuc 0 → count (is_result Negative Union w (pos 0)) ≡ pos 1
@@ -166,14 +166,16 @@ erosion-of corners convex rings bounds outside polygons wound = record {
     none : (w : ℤ) → pos 0 ≤ℤ w → count (is_result Negative Union w (pos 0)) ≡ pos 0
     none w from = ap (λ (t : Bool). count (t || int_lt (pos 0) (pos 0))) (fails-lt w (pos 0) from)
 
--- What is left of the inside, from the raw curve within rings that bound it.
-pub shrunk : (rule : FillRule) (edges : List Edge) (corners : List Point) → IsConvexAroundOrigin corners → (rings : List (List Point)) (raw : List Edge) (polygons : List (List (List Point))) → IsBoundary rule Union (real_edges edges) [] rings → raw ≡ raw_inside corners rings → IsWound Negative raw polygons → IsShrunk rule edges corners polygons
-shrunk rule edges corners convex rings raw polygons bounds is wound = record {
+-- What is left of the inside, from a raw curve within rings that bound it.
+pub shrunk : (rule : FillRule) (edges : List Edge) (corners : List Point) → IsConvexAroundOrigin corners → (rings : List (List Point)) (raw : List Edge) (polygons : List (List (List Point))) → IsBoundary rule Union (real_edges edges) [] rings → IsCurve (opposite_shape corners) (map backwards rings) raw → IsWound Negative raw polygons → IsShrunk rule edges corners polygons
+shrunk rule edges corners convex rings raw polygons bounds curve wound = record {
   rings = rings;
   bounds = bounds;
   inside = λ point exactly. exact-real edges [] rule Union (flat_map ring_edges rings) bounds.bounds.everywhere point (subst (λ (all : List Edge). All (IsExactAt all point) all) (sym (append-nil edges)) exactly);
-  wound = subst (λ (all : List Edge). IsWound Negative all polygons) is wound;
-  erosion = erosion-of corners convex rings (bound-once rule Union (real_edges edges) [] rings bounds) refl polygons (subst (λ (all : List Edge). IsWound Negative all polygons) is wound);
+  raw = raw;
+  curve = curve;
+  wound = wound;
+  erosion = erosion-of corners convex rings (bound-once rule Union (real_edges edges) [] rings bounds) refl raw curve polygons wound;
 }
 
 -- What paths grow to, from the shapes and parallelograms along them.

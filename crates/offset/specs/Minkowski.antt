@@ -1,6 +1,6 @@
 -- What a Minkowski sum of edges and a shape is, and what an erosion: polygons around the points of it.
 use Rattle.std.specs.List.{flat_map}
-use Rattle.std.specs.Prelude.{◌≡◌, ◌⊎◌, ◌≤◌, ◌<ℤ◌, [], ⊤, List, All, length, pos}
+use Rattle.std.specs.Prelude.{◌≡◌, ◌⊎◌, ◌≤◌, ◌<ℤ◌, [], ⊤, List, All, length, map, pos}
 use Rattle.plane.specs.declared.edge.Edge.{Edge}
 use Rattle.plane.specs.declared.point.Point.{Point}
 use Rattle.plane.specs.Meet.Edges.{RationalPoint}
@@ -17,7 +17,7 @@ use Rattle.overlay.specs.OnePiece.{TouchAlongNoCircle}
 use Rattle.overlay.specs.Overlay.{polygon_edges}
 use Rattle.overlay.specs.Polygons.{HasSignedArea, IsPolygon, rings_of}
 use Rattle.offset.specs.Cuts.{IsCurve}
-use Rattle.offset.specs.Raw.{GoesThrough, IsIn32Bits, IsPointIn32Bits, raw_edges, raw_inside}
+use Rattle.offset.specs.Raw.{GoesThrough, IsIn32Bits, IsPointIn32Bits, backwards, raw_edges, raw_inside}
 use Rattle.offset.specs.Shape.{opposite_shape}
 use Rattle.offset.specs.Sum.{IsOfErosion, IsOfSum}
 use Rattle.offset.specs.declared.fault.MinkowskiFault.{MinkowskiFault}
@@ -87,9 +87,12 @@ pub record IsShrunk (rule : FillRule) (edges : List Edge) (corners : List Point)
   pub bounds : IsBoundary rule Union (real_edges edges) [] rings
   -- they wind around the points of it, if each edge isn't moved among all, or runs along an axis, or isn't near the point
   pub inside : (point : RationalPoint) → All (IsExactAt edges point) edges → winding (flat_map ring_edges rings) point ≡ result_at rule Union edges [] point
-  -- the polygons are around what the raw curve within these rings winds around below 0, and from there the shape lies inside
-  pub wound : IsWound Negative (raw_inside corners rings) polygons
-  pub erosion : IsErosion corners (flat_map ring_edges rings) (raw_inside corners rings) polygons
+  -- the raw curve within these rings, of which some safe corners may be cut
+  pub raw : List Edge
+  pub curve : IsCurve (opposite_shape corners) (map backwards rings) raw
+  -- the polygons are around what it winds around below 0, and from there the shape lies inside
+  pub wound : IsWound Negative raw polygons
+  pub erosion : IsErosion corners (flat_map ring_edges rings) raw polygons
 
 -- Why the raw curve wasn't made: a corner of it is no point of 32 bits, or memory was refused.
 abbrev pub IsSumFault : FillRule → List Edge → List Point → MinkowskiFault → Type 0

@@ -7,13 +7,14 @@ ghost use Rattle.overlay.specs.Polygons.{Appends, AreAsBefore, AreExtended};
 ghost use Rattle.overlay.specs.Rings.{AreEnds, HasEnds, edges_of, real_edges, rings_of};
 ghost use Rattle.overlay.specs.declared.fill.rules.Operation.TheVariants.{Union};
 ghost use Rattle.offset.specs.declared.fault.MinkowskiFault.TheVariants.{Range};
+ghost use Rattle.offset.specs.Cuts.{IsCurve};
 ghost use Rattle.offset.specs.Faults.{IsPointFault, IsRawFault};
 ghost use Rattle.offset.specs.Minkowski.{IsErosionFault, IsShrunk};
 ghost use Rattle.offset.specs.Raw.{IsIn32Bits, IsPointIn32Bits, backwards, place_back, raw_edges, raw_inside};
 ghost use Rattle.offset.specs.Shape.{IsConvexAroundOrigin, opposite, opposite_shape};
 
+use crate::cuts::append_curve_of_ring;
 use crate::fault::MinkowskiFault;
-use crate::raw::append_raw_of_ring;
 use crate::shape::is_convex_around_origin;
 use crate::sum::{append_wound, bounding_rings};
 use i_tree::status::exp::StatusCollection;
@@ -111,7 +112,7 @@ where
     requires shape { IsConvexAroundOrigin shape.now }
     ensures ok { IfOk result (λ raw. (rings : List (List Point))
         × IsBoundary rule Union (real_edges (edges_of polygons.entry)) [] rings
-        × (raw.items ≡ raw_inside shape.now rings)) }
+        × IsCurve (opposite_shape shape.now) (map backwards rings) raw.items) }
     ensures fault { IfErr result (IsErosionFault rule (edges_of polygons.entry) shape.now) }
     ensures empty { OnOk result (C.stored status.new ≡ []) }
 {
@@ -129,13 +130,13 @@ fn raw_of_rings_back<A: Allocator + Copy>(
 ) -> Result<Vec<Edge, A>, MinkowskiFault>
     requires ends { AreEnds 0 ends.now (length points.now) }
     requires shape { IsConvexAroundOrigin shape.now }
-    ensures ok { IfOk result (λ raw. raw.items ≡ raw_edges shape.now (map backwards (rings_of points.now 0 ends.now))) }
+    ensures ok { IfOk result (λ raw. IsCurve shape.now (map backwards (rings_of points.now 0 ends.now)) raw.items) }
     ensures fault { IfErr result (IsRawFault (raw_edges shape.now (map backwards (rings_of points.now 0 ends.now)))) }
 {
     let mut raw = Vec::with_capacity(alloc, points.len())?;
     for ring in 0..ends.len() {
         let back = ring_back(alloc, ring_at(points, ends, ring))?;
-        append_raw_of_ring(shape, &back, &mut raw)?;
+        append_curve_of_ring(shape, &back, &mut raw)?;
     }
     Ok(raw)
 }

@@ -7,7 +7,7 @@ ghost use Rattle.overlay.specs.Contours.Rings.{has_two_ends};
 ghost use Rattle.offset.specs.declared.fault.MinkowskiFault.TheVariants.{Range};
 ghost use Rattle.offset.specs.Faults.{IsRawFault};
 ghost use Rattle.offset.specs.Near.{IsOfFurthest, corner_behind, sides_at};
-ghost use Rattle.offset.specs.Raw.{IsPointIn32Bits, fan, furthest, is_furthest, is_of_fan, joint, moved, moved_edge, nowhere, raw_of_ring, raw_of_two, ways, ways_by};
+ghost use Rattle.offset.specs.Raw.{IsPointIn32Bits, fan, furthest, is_furthest, is_of_fan, joint, moved, moved_edge, nowhere, raw_of_two, ways, ways_by};
 ghost use Rattle.offset.specs.Shape.{IsConvexAroundOrigin, sides};
 
 use crate::fault::MinkowskiFault;
@@ -15,25 +15,6 @@ use crate::shape::{next_place, side_at, turn};
 use plane::edge::{Edge, edge_between, end_of, start_of};
 use plane::point::Point;
 use std::alloc::Allocator;
-
-/// Appends the raw curve of the ring: each edge moved, and what joins it with the next one.
-pub fn append_raw_of_ring<A: Allocator>(
-    corners: &[Point],
-    ring: &[Point],
-    edges: &mut Vec<Edge, A>,
-) -> Result<(), MinkowskiFault>
-    requires { IsConvexAroundOrigin corners.now }
-    ensures ok { OnOk result (edges.new.items ≡ edges.old.items ++ raw_of_ring corners.now ring.now) }
-    ensures fault { IfErr result (IsRawFault (raw_of_ring corners.now ring.now)) }
-{
-    let mut near = first_place(corners, ring);
-    for index in 0..ring.len() {
-        let edge = side_at(ring, index);
-        let next = side_at(ring, next_place(index, ring.len()));
-        append_raw_of_two(corners, edge, next, &mut near, edges)?;
-    }
-    Ok(())
-}
 
 /// The place of the side behind which the furthest corner of the ring's first edge stands, if it has one.
 pub fn first_place(corners: &[Point], ring: &[Point]) -> usize
@@ -45,8 +26,8 @@ pub fn first_place(corners: &[Point], ring: &[Point]) -> usize
     furthest_place(corners, side_at(ring, 0))
 }
 
-/// Appends that of an edge and the next one. The furthest corner of the edge stands behind the side at the place `near`, and from
-/// then on that of the next one does.
+/// Appends the raw curve of an edge and the next one. The furthest corner of the edge stands behind the side at the place `near`,
+/// and from then on that of the next one does.
 pub fn append_raw_of_two<A: Allocator>(
     corners: &[Point],
     edge: Edge,

@@ -1,4 +1,4 @@
-use Rattle.std.proofs.Common.{◌≡◌, ◌∙◌, [], List, ap₂, map, subst, subst₂, sym}
+use Rattle.std.proofs.Common.{◌≡◌, ◌∙◌, [], List, map, subst, subst₂, sym}
 use Rattle.std.proofs.lemmas.Result.{IfErr-weaker, IfOk-weaker}
 use Rattle.plane.specs.declared.point.Point.{Point}
 use Rattle.noding.specs.Offsets.{AreJoined}
@@ -6,9 +6,10 @@ use Rattle.overlay.specs.Boundary.{IsBoundary}
 use Rattle.overlay.specs.Rings.{edges_of, real_edges, rings_of}
 use Rattle.overlay.specs.declared.fill.rules.Operation.TheVariants.{Union}
 use Rattle.overlay.proofs.Callers.{AreEnds-joined, rings-joined}
+use Rattle.offset.specs.Cuts.{IsCurve}
 use Rattle.offset.specs.Faults.{IsRawFault}
 use Rattle.offset.specs.Minkowski.{IsErosionFault}
-use Rattle.offset.specs.Raw.{backwards, raw_edges, raw_inside}
+use Rattle.offset.specs.Raw.{backwards, raw_edges}
 use Rattle.offset.specs.Shape.{IsConvexAroundOrigin, opposite_shape}
 use Rattle.offset.proofs.OppositeLemmas.{convex-opposite}
 use Rattle.offset.proofs.RawLemmas.{handed-on}
@@ -34,9 +35,9 @@ returns-clause-ok g c =
     let (rings, bounds, joined) = c.in_ok-points.ensures.ok in
     let same = rings-joined rings c.deref-2.result.now c.deref-3.result.now
     (subst₂ (AreJoined rings) (sym c.deref-2.ensures.value) (sym c.deref-3.ensures.value) joined) in
-    IfOk-weaker c.raw_of_rings_back.result (λ raw. raw.items ≡ raw_edges c.deref.result.now (map backwards (rings_of c.deref-2.result.now 0 c.deref-3.result.now)))
-    (λ raw. (rings : List (List Point)) × IsBoundary c.args.rule Union (real_edges edges) [] rings × (raw.items ≡ raw_inside shape rings))
-    (λ raw found. (rings, bounds, found ∙ ap₂ (λ (corners : List Point) (all : List (List Point)). raw_edges corners (map backwards all)) turned same)) c.raw_of_rings_back.ensures.ok
+    IfOk-weaker c.raw_of_rings_back.result (λ raw. IsCurve c.deref.result.now (map backwards (rings_of c.deref-2.result.now 0 c.deref-3.result.now)) raw.items)
+    (λ raw. (rings : List (List Point)) × IsBoundary c.args.rule Union (real_edges edges) [] rings × IsCurve (opposite_shape shape) (map backwards rings) raw.items)
+    (λ raw found. (rings, bounds, subst₂ (λ (corners : List Point) (all : List (List Point)). IsCurve corners (map backwards all) raw.items) turned same found)) c.raw_of_rings_back.ensures.ok
 
 pub returns-clause-fault : goal.returns-clause-fault
 returns-clause-fault g c =
