@@ -5,9 +5,10 @@ ghost use Rattle.noding.specs.Distinct.{AppendsUnlessLast, AreCopied, AreDistinc
 ghost use Rattle.noding.specs.Offsets.{between};
 ghost use Rattle.noding.specs.Stops.{AreAt, IsBefore};
 
-use crate::sample::{place_by_chance, sample_size};
+use crate::sample::sample_size;
 use crate::stops::Stop;
 use plane::edge::Edge;
+use plane::sample::place_by_chance;
 use std::alloc::{AllocError, Allocator};
 use std::cmp::Ordering;
 

@@ -10,5 +10,6 @@ pub mod locate;
 pub mod meet;
 pub mod pairs;
 pub mod point;
+pub mod sample;
 pub mod sweep_line;
 pub mod vectors;

@@ -3,8 +3,9 @@
 ghost use Rattle.std.specs.Prelude.{◌<◌, length};
 
 use super::lines::{Place, end_place, onwards, start_place};
-use noding::sample::{place_by_chance, sample_size};
+use noding::sample::sample_size;
 use plane::edge::Edge;
+use plane::sample::place_by_chance;
 use std::alloc::{AllocError, Allocator};
 
 // Where an edge starts and ends, going onwards, and its place among the edges.

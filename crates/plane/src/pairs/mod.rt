@@ -14,6 +14,7 @@ use i_tree::Refusal;
 use items::Meets;
 use parts::parts;
 pub use points::{pairs_with_points, pairs_with_points_within_budget};
+use sampled::is_likely_spent;
 use std::alloc::Allocator;
 use sweep::append_pairs;
 
@@ -29,6 +30,7 @@ mod parts;
 mod points;
 mod read_ahead;
 mod rows;
+mod sampled;
 mod strips;
 mod sweep;
 mod two;
@@ -168,6 +170,9 @@ fn sweep_over<T: Meets<T>, A: Allocator + Copy>(
     }
     let alloc = *out.allocator();
     let strips = strips_for(items, wanted_for(items));
+    if is_likely_spent(alloc, items, strips, budget)? {
+        return Ok(false);
+    }
     let parts = parts(alloc, items, strips)?;
     append_pairs(items, most, budget, strips, &parts, out)
 }
