@@ -8,4 +8,5 @@ pub mod Flows
 pub mod Linked
 pub mod Order
 pub mod Region
+pub mod Sloped
 pub mod Upright

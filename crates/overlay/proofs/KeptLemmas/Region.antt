@@ -11,11 +11,13 @@ use Rattle.overlay.specs.Fill.Counts.{Counts, kept_edge, kept_edges}
 use Rattle.overlay.specs.Fill.Filled.{IsFilled, IsNextInColumn}
 use Rattle.overlay.specs.Fill.Rules.{is_result}
 use Rattle.overlay.specs.Fill.Sweep.{AreFillPieces, kept_of}
+use Rattle.overlay.specs.Fill.Turned.{AreSloped}
 use Rattle.overlay.specs.Fill.Verticals.{AreVerticalsOf, BoundRegion}
 use Rattle.plane.specs.Ends.{reversed}
 use Rattle.noding.specs.Windings.{winding, count}
 use Rattle.overlay.proofs.FillLemmas.Callers.{kept-distinct, kept-high, kept-noded, kept-of, kept-onwards, kept-winds}
 use Rattle.overlay.proofs.FillLemmas.Premises.{All-among}
+use Rattle.overlay.proofs.VerticalLemmas.Sloped.{result-alone}
 use Rattle.overlay.proofs.KeptLemmas.Below.{above-edges, below-edges}
 
 -- the edges kept by the counts over the pieces are those kept by the counts over the edges
@@ -64,9 +66,17 @@ module _ (rule : FillRule) (operation : Operation) (pieces : List Piece) (fill :
   pub kept-region : BoundRegion kept
   kept-region = subst BoundRegion (sym are_edges) region
 
+  -- they wind as the result
+  pub kept-result : (point : RationalPoint) → winding kept point ≡ count (is_result rule operation (winding subject point) (winding clip point))
+  kept-result point = ap (λ (edges : List Edge). winding edges point) are_edges ∙ kept-winds subject clip fill.closed fill.clip_closed fill.noded pieces fill.are rule operation point
+
+  -- where no edge of subject and clip is vertical, they are closed
+  pub kept-alone : AreSloped subject → AreSloped clip → AreVerticalsOf kept []
+  kept-alone sloped clip_sloped = result-alone kept subject clip kept-region fill.closed fill.clip_closed sloped clip_sloped (λ (a b : ℤ). count (is_result rule operation a b)) kept-result
+
   pub kept-filled : (verticals : List Edge) → AreVerticalsOf kept verticals → IsFilled rule operation subject clip (kept ++ verticals)
   kept-filled verticals are = record {
-    winds = λ point. are.winds point ∙ ap (λ (edges : List Edge). winding edges point) are_edges ∙ kept-winds subject clip fill.closed fill.clip_closed fill.noded pieces fill.are rule operation point;
+    winds = λ point. are.winds point ∙ kept-result point;
     closed = are.closed;
     noded = are.noded;
     distinct = are.distinct;

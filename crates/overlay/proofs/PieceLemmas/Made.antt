@@ -22,7 +22,7 @@ use Rattle.overlay.specs.Fill.Counts.{is_lower_on}
 use Rattle.overlay.specs.Fill.Filled.{AreNoded}
 use Rattle.overlay.specs.Fill.Pieces.{ArePieces, total, weight}
 use Rattle.overlay.specs.Fill.Sweep.{WeighUpto}
-use Rattle.overlay.specs.Fill.Turned.{AreJoinOf, AreTurned, AreUnjoined, BeginApart, IsSmall, StandFor, asked, piece_of, turned}
+use Rattle.overlay.specs.Fill.Turned.{AreJoinOf, AreSloped, AreTurned, AreUnjoined, BeginApart, IsSmall, StandFor, asked, piece_of, turned}
 use Rattle.noding.specs.Windings.{IsClosed}
 use Rattle.overlay.proofs.FillLemmas.Level.{MeetOnly}
 use Rattle.overlay.proofs.FillLemmas.Order.{lower-asym, start-lower}
@@ -253,6 +253,24 @@ turned-few subject clip pieces are =
     let first = turned-length Subject subject in
     let second = turned-length Clip clip in
     omega (arith, all, sum, first, second)
+
+-- where none is left out, none is vertical
+AreSloped-turned : (operand : Operand) (edges : List Edge) → length edges ≤ length (turned operand edges) → AreSloped edges
+AreSloped-turned operand [] all = All-nil (λ edge. edge.x1 ≢ edge.x0)
+AreSloped-turned operand (edge ∷ edges) all = by (int_eq edge.x0 edge.x1) refl all (turned-length operand edges) (AreSloped-turned operand edges)
+  where
+    by : (t : Bool) → int_eq edge.x0 edge.x1 ≡ t → length (edge ∷ edges) ≤ length (cond t (turned operand edges) (piece_of operand edge ∷ turned operand edges)) → length (turned operand edges) ≤ length edges
+        → (length edges ≤ length (turned operand edges) → AreSloped edges) → AreSloped (edge ∷ edges)
+    by true e many few rest = absurd (omega (arith, few, many))
+    by false e many few rest = All-cons (λ one. one.x1 ≢ one.x0) edge edges (λ same. unequal edge.x0 edge.x1 e (sym same)) (rest (omega (arith, many)))
+
+pub AreSloped-both : (subject clip : List Edge) (pieces : List Piece) → pieces ≡ turned Subject subject ++ turned Clip clip → length subject + length clip ≤ length pieces → AreSloped subject × AreSloped clip
+AreSloped-both subject clip pieces are many =
+    let all = ap (λ (list : List Piece). length list) are in
+    let sum = length-append (turned Subject subject) (turned Clip clip) in
+    let first = turned-length Subject subject in
+    let second = turned-length Clip clip in
+    (AreSloped-turned Subject subject (omega (arith, all, sum, second, many)), AreSloped-turned Clip clip (omega (arith, all, sum, first, many)))
 
 -- the edges of both, closed and noded, as they are turned
 pub unjoined-turned : (subject clip : List Edge) (pieces : List Piece) → IsClosed subject → IsClosed clip → AreNoded (subject ++ clip) → pieces ≡ turned Subject subject ++ turned Clip clip → length subject + length clip < 2 ^ 63

@@ -6,6 +6,7 @@ use Rattle.std.specs.List.{All, Contains}
 use Rattle.std.specs.Prelude.{int_le}
 use Rattle.plane.specs.declared.edge.Edge.{Edge}
 use Rattle.plane.specs.declared.point.Point.{Point}
+use Rattle.plane.specs.Meet.Edges.{RationalPoint}
 use Rattle.plane.proofs.MeetLemmas.Identities.{identity, number, scaled, times}
 use Rattle.overlay.specs.Fill.Verticals.{BoundRegion}
 use Rattle.plane.specs.Ends.{end_of, start_of}
@@ -34,18 +35,33 @@ pub bits : (z : ℤ) → (z ≡ pos 0) ⊎ (z ≡ pos 1) → (pos 0 ≤ℤ z) ×
 bits z (inl is) = (omega (arith, ints, is), omega (arith, ints, is))
 bits z (inr is) = (omega (arith, ints, is), omega (arith, ints, is))
 
+-- From some height on the edges wind around nothing: far up on the left, and so what ends upto a height, less what starts, is the
+-- winding number left of it less that right of it.
+module _ (k : ℕ) (edges : List Edge) (bound : ℤ) (low : bound ≤ℤ pos k) (outside : (point : RationalPoint) → (pos point.n *ℤ bound) ≤ℤ point.y → winding edges point ≡ pos 0) where
+  pub left-high-none : (x : ℤ) → winding edges (left_of k x 1 (pos k) one_some) ≡ pos 0
+  left-high-none x =
+      let more = scaled (1 * parts k) bound (pos k) low in
+      let same : (pos (1 * parts k) *ℤ pos k) ≡ (pos (parts k) *ℤ pos k) = identity (times (n_of (1 * parts k)) (n_of k)) (times (n_of (parts k)) (n_of k)) (omega arith) in
+      outside (left_of k x 1 (pos k) one_some) (omega (arith, ints, more, same))
+
+  pub flow-differs : sizes edges ≤ k → All (λ edge. edge.x1 ≢ edge.x0) edges → (x : ℤ) (n : ℕ) (y : ℤ) (some : 0 < n)
+      → flow (is_upto x n y) edges ≡ (winding edges (left_of k x n y some) -ℤ winding edges (right_of x n y some))
+  flow-differs small slanted x n y some =
+      let sum = flow-windings k edges x n y some small (Every-all (λ edge. edge.x1 ≢ edge.x0) edges slanted) in
+      let none = left-high-none x in
+      omega (arith, ints, sum, none)
+
 module _ (sloped : List Edge) (region : BoundRegion sloped) where
   -- at least the size of each edge, and the height from which on nothing is of the region
   abbrev pub extent : ℕ
   extent = sizes sloped + size_of region.bound
 
+  bound_upto : region.bound ≤ℤ pos extent
+  bound_upto = let low = upto_size region.bound in omega (arith, ints, low)
+
   -- far up on the left nothing is of the region
   high-none : (x : ℤ) → winding sloped (left_of extent x 1 (pos extent) one_some) ≡ pos 0
-  high-none x =
-      let low = upto_size region.bound in
-      let more = scaled (1 * parts extent) region.bound (pos extent) (omega (arith, ints, low)) in
-      let same : (pos (1 * parts extent) *ℤ pos extent) ≡ (pos (parts extent) *ℤ pos extent) = identity (times (n_of (1 * parts extent)) (n_of extent)) (times (n_of (parts extent)) (n_of extent)) (omega arith) in
-      region.outside (left_of extent x 1 (pos extent) one_some) (omega (arith, ints, more, same))
+  high-none x = left-high-none extent sloped region.bound bound_upto region.outside x
 
   right-high-none : (x : ℤ) → winding sloped (right_of x 1 (pos extent) one_some) ≡ pos 0
   right-high-none x =
@@ -54,10 +70,7 @@ module _ (sloped : List Edge) (region : BoundRegion sloped) where
 
   -- what ends upto a height, less what starts, is the winding number left of it less that right of it
   pub flow-is : (x : ℤ) (n : ℕ) (y : ℤ) (some : 0 < n) → flow (is_upto x n y) sloped ≡ (winding sloped (left_of extent x n y some) -ℤ winding sloped (right_of x n y some))
-  flow-is x n y some =
-      let sum = flow-windings extent sloped x n y some (omega arith) (Every-all (λ edge. edge.x1 ≢ edge.x0) sloped region.slanted) in
-      let none = high-none x in
-      omega (arith, ints, sum, none)
+  flow-is x n y some = flow-differs extent sloped region.bound bound_upto region.outside (omega arith) region.slanted x n y some
 
   pub flow-upto : (x : ℤ) (n : ℕ) (y : ℤ) → 0 < n → flow (is_upto x n y) sloped ≤ℤ pos 1
   flow-upto x n y some =

@@ -33,6 +33,10 @@ pub record IsSmall (most : ℕ) (piece : Piece) : Type 0 where
   pub clip_from : (pos 0 -ℤ pos most) ≤ℤ piece.clip
   pub clip_upto : piece.clip ≤ℤ pos most
 
+-- None of the edges is vertical.
+abbrev pub AreSloped : List Edge → Type 0
+AreSloped edges = All (λ edge. edge.x1 ≢ edge.x0) edges
+
 -- The pieces stand for the edges of both that aren't vertical: each goes rightwards and is one of these edges, one way or the
 -- other, and together they weigh the same, whichever edges are asked for. They are so small and so few that sums of them are
 -- numbers of 64 bits. Several may be of one edge.

@@ -12,7 +12,7 @@ use crate::contours::contours_in_place;
 use crate::fill::{Choice, fill_pieces};
 use i_tree::Refusal;
 use i_tree::status::exp::StatusCollection;
-use pieces::standing_pieces;
+use pieces::{Standing, standing_pieces};
 use plane::edge::Edge;
 use plane::point::Point;
 use plane::sweep_line::ActiveEdge;
@@ -91,9 +91,9 @@ where
     ensures refused { HasAllHandles C.has_handles → IfErr result (λ cause. cause ≡ OutOfMemory) }
     ensures empty { C.stored status.new ≡ [] }
 {
-    let pieces = standing_pieces(alloc, edges, count)?;
+    let Standing { pieces, are_sloped } = standing_pieces(alloc, edges, count)?;
     // Of vertical edges there are no pieces, but some are among those of the boundary.
     let mut bounding = Vec::with_capacity(alloc, pieces.capacity())?;
-    fill_pieces(pieces, choice, status, &mut bounding)?;
+    fill_pieces(pieces, are_sloped, choice, status, &mut bounding)?;
     Ok(bounding)
 }

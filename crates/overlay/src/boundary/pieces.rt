@@ -1,13 +1,13 @@
 //! From the stops of edges to the pieces of a fill, with no list of chains or of broken edges between.
 
-ghost use Rattle.std.specs.Prelude.{◌≡◌, ◌∷◌, ◌++◌, ◌+◌, ◌*◌, ◌≤◌, ◌<◌, ◌^◌, [], List, IfErr, IfOk, OnOk, drop, length, map, take};
+ghost use Rattle.std.specs.Prelude.{◌≡◌, ◌∷◌, ◌++◌, ◌+◌, ◌*◌, ◌≤◌, ◌<◌, ◌^◌, [], List, IfErr, IfOk, OnOk, drop, length, map, take, true};
 ghost use Rattle.std.specs.List.{flat_map};
 ghost use Rattle.i_tree.specs.declared.Refusal.TheVariants.{OutOfMemory};
 ghost use Rattle.plane.specs.declared.edge.Edge.{Edge};
 ghost use Rattle.plane.specs.declared.point.Point.{Point};
 ghost use Rattle.overlay.specs.declared.fill.pieces.Operand.TheVariants.{Subject, Clip};
 ghost use Rattle.overlay.specs.Boundary.{AreBroken, GoesOnToEnd, chain_pieces};
-ghost use Rattle.overlay.specs.Fill.Turned.{StandFor, turned};
+ghost use Rattle.overlay.specs.Fill.Turned.{AreSloped, StandFor, turned};
 ghost use Rattle.overlay.specs.Joined.{weighed, weighed_pieces};
 ghost use Rattle.noding.specs.Local.{AreNodeChains};
 ghost use Rattle.plane.specs.Ends.{edge_between, end_of, start_of};
@@ -24,6 +24,13 @@ use plane::edge::{Edge, edge_between, end_of, start_of};
 use plane::point::Point;
 use std::alloc::{AllocError, Allocator};
 
+/// Pieces that stand for edges, and whether it is known that none of these edges is vertical.
+#[derive(Drop)]
+pub struct Standing<A: Allocator> {
+    pub pieces: Vec<Piece, A>,
+    pub are_sloped: bool,
+}
+
 /// What stands for the pieces of the subject's edges and of the clip's, which are broken together where they meet, and moved only
 /// where they must be, as `broken` does it: those that aren't vertical, turned rightwards. The first `count` of the edges are the
 /// subject's.
@@ -35,15 +42,19 @@ pub fn standing_pieces<A: Allocator + Copy>(
     alloc: A,
     edges: &[Edge],
     count: usize,
-) -> Result<Vec<Piece, A>, Refusal>
+) -> Result<Standing<A>, Refusal>
     requires { count ≤ length edges.now }
     ensures ok { IfOk result (λ out. (broken broken_clip : List Edge)
         × AreBroken (take count edges.now) (drop count edges.now) broken broken_clip
-        × StandFor broken broken_clip out.items) }
+        × StandFor broken broken_clip out.pieces.items
+        × (out.are_sloped ≡ true → AreSloped broken × AreSloped broken_clip)) }
     ensures refused { IfErr result (λ cause. cause ≡ OutOfMemory) }
 {
     match joined_edges(alloc, edges, count)? {
-        Some(stretches) => pieces_of_stretches(alloc, &stretches, edges.len()),
+        Some(stretches) => Ok(Standing {
+            pieces: pieces_of_stretches(alloc, &stretches, edges.len())?,
+            are_sloped: false,
+        }),
         None => broken_pieces(alloc, edges, count),
     }
 }
@@ -125,18 +136,22 @@ pub fn broken_pieces<A: Allocator + Copy>(
     alloc: A,
     edges: &[Edge],
     count: usize,
-) -> Result<Vec<Piece, A>, Refusal>
+) -> Result<Standing<A>, Refusal>
     requires { count ≤ length edges.now }
     ensures ok { IfOk result (λ out. (broken broken_clip : List Edge)
         × AreBroken (take count edges.now) (drop count edges.now) broken broken_clip
-        × (out.items ≡ turned Subject broken ++ turned Clip broken_clip)
-        × (length broken + length broken_clip < 2 ^ 63)) }
+        × (out.pieces.items ≡ turned Subject broken ++ turned Clip broken_clip)
+        × (length broken + length broken_clip < 2 ^ 63)
+        × (out.are_sloped ≡ true → AreSloped broken × AreSloped broken_clip)) }
     ensures refused { IfErr result (λ cause. cause ≡ OutOfMemory) }
 {
     let stops = nodes_in_order(alloc, edges)?;
-    let mut out = Vec::with_capacity(alloc, room_for(edges, &stops)?)?;
-    append_pieces(edges, &stops, count, &mut out)?;
-    Ok(out)
+    let most = room_for(edges, &stops)?;
+    let mut pieces = Vec::with_capacity(alloc, most)?;
+    append_pieces(edges, &stops, count, &mut pieces)?;
+    // There are no more pieces than this, vertical ones among them, and those alone were left out.
+    let are_sloped = pieces.len() == most;
+    Ok(Standing { pieces, are_sloped })
 }
 
 // Appends the pieces of the chain of each edge in turn. There is at most one for each stop, and one more for each edge.

@@ -1,11 +1,11 @@
 //! Which edges bound what is inside: the fill of closed edges that meet only at common ends.
 
-ghost use Rattle.std.specs.Prelude.{◌≡◌, ◌++◌, ◌+◌, ◌≤◌, [], List, length, IfErr, OnOk, OnErr};
+ghost use Rattle.std.specs.Prelude.{◌≡◌, ◌++◌, ◌+◌, ◌≤◌, [], List, length, true, IfErr, OnOk, OnErr};
 ghost use Rattle.i_tree.specs.declared.Refusal.TheVariants.{OutOfMemory};
 ghost use Rattle.i_tree.specs.Root.Handles.{HasHandlesFor};
 ghost use Rattle.plane.specs.declared.edge.Edge.{Edge};
 ghost use Rattle.overlay.specs.Fill.Filled.{AreNoded, AppendsFilled, IsFilled};
-ghost use Rattle.overlay.specs.Fill.Turned.{AreUnjoined};
+ghost use Rattle.overlay.specs.Fill.Turned.{AreSloped, AreUnjoined};
 ghost use Rattle.plane.specs.Lists.{Extends};
 ghost use Rattle.noding.specs.Windings.{IsClosed};
 
@@ -72,13 +72,17 @@ where
 {
     status.clear();
     let pieces = turned_pieces(*out.allocator(), subject, clip)?;
-    fill_pieces(pieces, Choice { rule, operation }, status, out)
+    // There is a piece of each edge that isn't vertical.
+    let are_sloped = pieces.len() == subject.len() + clip.len();
+    fill_pieces(pieces, are_sloped, Choice { rule, operation }, status, out)
 }
 
 /// As `fill`, of the pieces of subject and clip in a list that is no longer needed: they are sorted and joined in it. So
-/// `boundary` fills what `standing_pieces` made.
+/// `boundary` fills what `standing_pieces` made. It is told whether it is known that no edge of subject or clip is vertical: then
+/// the edges kept are closed already, and no vertical ones are looked for.
 pub fn fill_pieces<C, A>(
     pieces: Vec<Piece, A>,
+    are_sloped: bool,
     choice: Choice,
     status: &mut C,
     out: &mut Vec<Edge, A>,
@@ -86,7 +90,8 @@ pub fn fill_pieces<C, A>(
 where
     C: StatusCollection<ActiveEdge, i64, ()>,
     A: Allocator + Copy,
-    requires { (subject clip : List Edge) × AreUnjoined subject clip pieces.items }
+    requires { (subject clip : List Edge) × AreUnjoined subject clip pieces.items
+        × (are_sloped ≡ true → AreSloped subject × AreSloped clip) }
     ensures ok { (subject clip : List Edge) → AreUnjoined subject clip pieces.items
         → OnOk result (AppendsFilled choice subject clip out.old.items out.new.items) }
     ensures err { OnErr result (out.new.items ≡ out.old.items) }
@@ -96,7 +101,7 @@ where
 {
     status.clear();
     let before = out.len();
-    let outcome = append_filled(pieces, choice, status, out);
+    let outcome = append_filled(pieces, are_sloped, choice, status, out);
     status.clear();
     if outcome.is_err() {
         out.truncate(before);
@@ -108,6 +113,7 @@ where
 // something.
 fn append_filled<C, A>(
     mut pieces: Vec<Piece, A>,
+    are_sloped: bool,
     choice: Choice,
     status: &mut C,
     out: &mut Vec<Edge, A>,
@@ -116,7 +122,8 @@ where
     C: StatusCollection<ActiveEdge, i64, ()>,
     A: Allocator + Copy,
     requires empty { C.stored status.old ≡ [] }
-    requires unjoined { (subject clip : List Edge) × AreUnjoined subject clip pieces.items }
+    requires unjoined { (subject clip : List Edge) × AreUnjoined subject clip pieces.items
+        × (are_sloped ≡ true → AreSloped subject × AreSloped clip) }
     ensures ok { (subject clip : List Edge) → AreUnjoined subject clip pieces.items
         → OnOk result (AppendsFilled choice subject clip out.old.items out.new.items) }
     ensures err { OnErr result (Extends out.old.items out.new.items) }
@@ -126,6 +133,8 @@ where
     let first = out.len();
     join_in_order(&mut pieces)?;
     append_kept(status, &pieces, choice, out)?;
-    append_verticals(out, first)?;
+    if !are_sloped {
+        append_verticals(out, first)?;
+    }
     Ok(())
 }

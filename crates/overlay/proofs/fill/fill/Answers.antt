@@ -1,5 +1,6 @@
 use Rattle.std.proofs.Common.{arith}
-use Rattle.overlay.proofs.PieceLemmas.Made.{turned-few, unjoined-turned}
+use Rattle.std.proofs.lemmas.Bool.Decides.{nat_tests}
+use Rattle.overlay.proofs.PieceLemmas.Made.{AreSloped-both, turned-few, unjoined-turned}
 use Rattle.overlay.proofs.fill.fill.Goals as goal
 
 pub fill_pieces-requires : goal.fill_pieces-requires
@@ -7,6 +8,7 @@ fill_pieces-requires g c = (
   c.args.subject.now,
   c.args.clip.now,
   unjoined-turned c.args.subject.now c.args.clip.now c.in_ok-pieces.pieces.items c.requires.closed c.requires.clip_closed c.requires.noded c.in_ok-pieces.ensures.turned c.in_ok-pieces.ensures.countable,
+  λ all. AreSloped-both c.args.subject.now c.args.clip.now c.in_ok-pieces.pieces.items c.in_ok-pieces.ensures.turned (let size = c.len.ensures in grind (arith, nat_tests, all, size)),
 )
 
 pub returns-clause-ok : goal.returns-clause-ok

@@ -9,6 +9,8 @@ use Rattle.noding.specs.declared.stops.Stop.{Stop}
 use Rattle.overlay.specs.Boundary.{chain_pieces}
 use Rattle.noding.specs.Windings.{pieces}
 use Rattle.overlay.proofs.BoundaryLemmas.Broken.{broken-chains}
+use Rattle.i_tree.proofs.SegLemmas.Tests.{nat_eq-is}
+use Rattle.overlay.proofs.PieceLemmas.Made.{AreSloped-both}
 use Rattle.overlay.proofs.boundary.pieces.broken_pieces.Goals as goal
 
 pub returns-clause-ok : goal.returns-clause-ok
@@ -21,12 +23,14 @@ returns-clause-ok g c =
     let whole = ap (λ (lists : List (List Point)). length (flat_map pieces lists)) (take-append-drop count chains) in
     let parts = ap (λ (list : List Edge). length list) (flat_map-append pieces (take count chains) (drop count chains)) in
     let sum = length-append broken broken_clip in
-    let (room, countable) = c.in_ok-room_for.ensures in
+    let gained = is ∙ ap (λ (before : List Piece). before ++ chain_pieces count chains) c.in_ok-pieces.ensures.items in
+    let (room, countable) = c.in_ok-most.ensures in
     let first = ap (λ (list : List Stop). length list) c.deref.ensures.value in
     let second = ap (λ (list : List Stop). length list) c.deref-2.ensures.value in (
       broken,
       broken_clip,
       broken-chains edges chains count c.requires are,
-      is ∙ ap (λ (before : List Piece). before ++ chain_pieces count chains) c.in_ok-out.ensures.items,
+      gained,
       omega (arith, whole, parts, sum, room, countable, first, second, few),
+      λ all. AreSloped-both broken broken_clip c.append_pieces.new.out.items gained (let size = c.len.ensures in let same = nat_eq-is c.len.result c.in_ok-most.most all in omega (arith, same, size, whole, parts, sum, room, first, second, few)),
     )
