@@ -1,5 +1,5 @@
 -- Edges along one line, cut where any of them begins or ends. For private contracts.
-use Rattle.std.specs.Prelude.{◌≡◌, ◌++◌, ◌&&◌, ◌||◌, ◌^◌, Bool, false, not, cond, List, [], ◌∷◌, AllPairs, ℤ, pos, negsuc, ◌+ℤ◌, ◌-ℤ◌, ◌≤ℤ◌, ◌<ℤ◌}
+use Rattle.std.specs.Prelude.{◌≡◌, ◌++◌, ◌&&◌, ◌||◌, ◌^◌, Bool, false, not, cond, List, [], ◌∷◌, All, AllPairs, Contains, ℤ, pos, negsuc, ◌+ℤ◌, ◌-ℤ◌, ◌≤ℤ◌, ◌<ℤ◌}
 use Rattle.std.specs.Ordering.{int_cmp, int_eq, is_lt, on, then_cmp}
 use Rattle.std.specs.declared.cmp.Ordering.{Ordering}
 use Rattle.plane.specs.declared.edge.Edge.{Edge}
@@ -7,9 +7,12 @@ use Rattle.plane.specs.declared.point.Point.{Point}
 use Rattle.plane.specs.Ends.{edge_between, end_of, start_of}
 use Rattle.overlay.specs.declared.boundary.lines.Change.{Change}
 use Rattle.overlay.specs.declared.boundary.lines.Place.{Place}
+use Rattle.overlay.specs.declared.boundary.lines.Run.{Run}
 use Rattle.overlay.specs.declared.boundary.lines.Sums.{Sums}
 use Rattle.overlay.specs.declared.fill.pieces.Operand.{Operand}
+use Rattle.overlay.specs.declared.fill.pieces.Operand.TheVariants.{Subject, Clip}
 use Rattle.overlay.specs.declared.fill.pieces.Piece.{Piece}
+use Rattle.overlay.specs.Fill.Pieces.{total, weight}
 use Rattle.overlay.specs.Fill.Turned.{piece_of}
 use Rattle.overlay.specs.Joined.{onwards}
 
@@ -69,6 +72,56 @@ abbrev pub changes_of : Operand → List Edge → List Change
 changes_of operand [] = []
 changes_of operand (edge ∷ edges) = start_change operand edge ∷ end_change operand edge ∷ changes_of operand edges
 
+-- A change of edges of the operand: so many begin at the place, and weigh so much.
+abbrev pub change_at : Operand → Place → ℤ → ℤ → Change
+change_at Subject place count weight = record { place = place; count = count; subject = weight; clip = pos 0 }
+change_at Clip place count weight = record { place = place; count = count; subject = pos 0; clip = weight }
+
+-- A run without an edge yet, and a run with one edge more.
+abbrev pub no_run : Edge → Run
+no_run line = record { edge = line; count = pos 0; weight = pos 0 }
+
+abbrev pub longer : Run → Edge → Run
+longer run edge = record { edge = run.edge; count = run.count +ℤ pos 1; weight = run.weight +ℤ weight edge }
+
+-- A run of at most 127 edges.
+pub record IsSmallRun (run : Run) : Type 0 where
+  pub from : pos 0 ≤ℤ run.count
+  pub upto : run.count ≤ℤ pos 127
+  pub weight_from : (pos 0 -ℤ run.count) ≤ℤ run.weight
+  pub weight_upto : run.weight ≤ℤ run.count
+
+-- What changes where a run begins, and where it ends.
+abbrev pub run_start : Operand → Run → Change
+run_start operand run = change_at operand (start_place run.edge) run.count run.weight
+
+abbrev pub run_end : Operand → Run → Change
+run_end operand run = change_at operand (end_place run.edge) (pos 0 -ℤ run.count) (pos 0 -ℤ run.weight)
+
+-- Both, if the run has an edge.
+abbrev pub run_changes : Operand → Run → List Change
+run_changes operand run = cond (int_eq run.count (pos 0)) [] (run_start operand run ∷ run_end operand run ∷ [])
+
+-- something changes at the place
+abbrev pub IsChanged : List Change → Place → Type 0
+IsChanged changes place = (change : Change) × Contains changes change × (change.place ≡ place)
+
+-- what is asked of a change, if it is at one of the places
+abbrev pub told_at : (Place → Bool) → (Change → ℤ) → Change → ℤ
+told_at test f change = cond (test change.place) (f change) (pos 0)
+
+-- Whichever places are asked for, as much changes there.
+abbrev pub TellAlike : (Change → ℤ) → List Change → List Change → Type 0
+TellAlike f told changes = (test : Place → Bool) → total (told_at test f) told ≡ total (told_at test f) changes
+
+-- Both lists tell the same: at the same places something changes, and as much of each.
+pub record TellAs (told changes : List Change) : Type 0 where
+  pub count : TellAlike (λ change. change.count) told changes
+  pub subject : TellAlike (λ change. change.subject) told changes
+  pub clip : TellAlike (λ change. change.clip) told changes
+  pub of : All (λ change. IsChanged changes change.place) told
+  pub all : All (λ change. IsChanged told change.place) changes
+
 -- The order of places: by the line, and then along it.
 abbrev pub cmp_lines : Edge → Edge → Ordering
 cmp_lines = then_cmp (on (λ edge. edge.x0) int_cmp) (then_cmp (on (λ edge. edge.y0) int_cmp) (then_cmp (on (λ edge. edge.x1) int_cmp) (on (λ edge. edge.y1) int_cmp)))
@@ -110,14 +163,21 @@ abbrev pub all_stretches : List Change → List Piece
 all_stretches [] = []
 all_stretches (change ∷ changes) = stretches_from change.place nothing (change ∷ changes)
 
--- At most one edge begins or ends.
-pub record IsUnit (change : Change) : Type 0 where
-  pub from : (pos 0 -ℤ pos 1) ≤ℤ change.count
-  pub upto : change.count ≤ℤ pos 1
-  pub subject_from : (pos 0 -ℤ pos 1) ≤ℤ change.subject
-  pub subject_upto : change.subject ≤ℤ pos 1
-  pub clip_from : (pos 0 -ℤ pos 1) ≤ℤ change.clip
-  pub clip_upto : change.clip ≤ℤ pos 1
+-- At most 127 edges begin or end.
+pub record IsSmallChange (change : Change) : Type 0 where
+  pub from : (pos 0 -ℤ pos 127) ≤ℤ change.count
+  pub upto : change.count ≤ℤ pos 127
+  pub subject_from : (pos 0 -ℤ pos 127) ≤ℤ change.subject
+  pub subject_upto : change.subject ≤ℤ pos 127
+  pub clip_from : (pos 0 -ℤ pos 127) ≤ℤ change.clip
+  pub clip_upto : change.clip ≤ℤ pos 127
+
+-- Changes are appended that tell what those of the edges do.
+pub record AppendsTold (operand : Operand) (edges : List Edge) (before after : List Change) : Type 0 where
+  pub more : List Change
+  pub appended : after ≡ before ++ more
+  pub tell : TellAs more (changes_of operand edges)
+  pub small : All IsSmallChange more
 
 -- the sums are numbers of 64 bits
 pub record Fit (sums : Sums) (change : Change) : Type 0 where

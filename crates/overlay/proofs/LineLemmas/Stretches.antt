@@ -18,13 +18,13 @@ use Rattle.overlay.specs.declared.boundary.lines.Sums.{Sums}
 use Rattle.overlay.specs.declared.fill.pieces.Piece.{Piece}
 use Rattle.overlay.specs.Fill.Pieces.{total, weight}
 use Rattle.overlay.specs.Joined.{AreJoinedEdges, IsMadeUp, Lead, has_part, onwards}
-use Rattle.overlay.specs.Lines.{AreInOrder, all_stretches, before, is_same_place, nothing, piece_between, plus, point_at, start_place, end_place, stretch_between, stretches_from}
+use Rattle.overlay.specs.Lines.{AreInOrder, IsChanged, all_stretches, before, is_same_place, nothing, piece_between, plus, point_at, start_place, end_place, stretch_between, stretches_from}
 use Rattle.overlay.proofs.FillLemmas.Tests.{int_eq-true}
 use Rattle.overlay.proofs.FillLemmas.Premises.{All-among}
 use Rattle.overlay.proofs.FillLemmas.Totals.{total-append, total-more, total-same}
 use Rattle.overlay.proofs.LineLemmas.Parts.{IsStretch, onwards-is, part-within, point-end, point-start, stretch-is}
 use Rattle.overlay.proofs.LineLemmas.Places.{before-irrefl, before-not, before-same, before-trans, before-upto, upto-before, upto-trans}
-use Rattle.overlay.proofs.LineLemmas.Sums.{AreAllChanges, IsChanged, changed-end, end_at, ends-changed, none-over, of_over, one, over, some-over, start_at, starts-before, starts-changed, sum-nothing, sum-over}
+use Rattle.overlay.proofs.LineLemmas.Sums.{AreAllChanges, changed-end, end_at, ends-changed, none-over, of_over, one, over, some-over, start_at, starts-before, starts-changed, sum-nothing, sum-over}
 use Rattle.overlay.proofs.PieceLemmas.Edges.{equal, unequal}
 
 -- ---- places that are the same
@@ -129,7 +129,7 @@ module _ (subject clip : List Edge) (all : List Change) (are : AreAllChanges sub
     count-is : sums.count ≡ (total (of_over change.place one) subject +ℤ total (of_over change.place one) clip)
     count-is =
         at.count
-        ∙ sum-over subject clip all are done (change ∷ rest) from change.place at.is at.upto less not-before (λ (other : Change). other.count) one one (λ edge. refl) (λ edge. refl) (λ edge. refl) (λ edge. refl)
+        ∙ sum-over subject clip all done (change ∷ rest) from change.place at.is at.upto less not-before (λ (other : Change). other.count) are.tell.count one one (λ edge. refl) (λ edge. refl) (λ edge. refl) (λ edge. refl)
 
     count-both : sums.count ≡ total (of_over change.place one) (subject ++ clip)
     count-both = count-is ∙ sym (total-append (of_over change.place one) subject clip)
@@ -144,14 +144,14 @@ module _ (subject clip : List Edge) (all : List Change) (are : AreAllChanges sub
     subject-is =
         no_second sums.subject (total (of_over change.place weight) subject) (total (of_over change.place (λ edge. pos 0)) clip)
         (at.subject
-        ∙ sum-over subject clip all are done (change ∷ rest) from change.place at.is at.upto less not-before (λ (other : Change). other.subject) weight (λ edge. pos 0) (λ edge. refl) (λ edge. refl) (λ edge. refl) (λ edge. refl))
+        ∙ sum-over subject clip all done (change ∷ rest) from change.place at.is at.upto less not-before (λ (other : Change). other.subject) are.tell.subject weight (λ edge. pos 0) (λ edge. refl) (λ edge. refl) (λ edge. refl) (λ edge. refl))
         (sum-nothing change.place clip)
 
     clip-is : sums.clip ≡ total (of_over change.place weight) clip
     clip-is =
         no_first sums.clip (total (of_over change.place (λ edge. pos 0)) subject) (total (of_over change.place weight) clip)
         (at.clip
-        ∙ sum-over subject clip all are done (change ∷ rest) from change.place at.is at.upto less not-before (λ (other : Change). other.clip) (λ edge. pos 0) weight (λ edge. refl) (λ edge. refl) (λ edge. refl) (λ edge. refl))
+        ∙ sum-over subject clip all done (change ∷ rest) from change.place at.is at.upto less not-before (λ (other : Change). other.clip) are.tell.clip (λ edge. pos 0) weight (λ edge. refl) (λ edge. refl) (λ edge. refl) (λ edge. refl))
         (sum-nothing change.place subject)
 
     abbrev passed : Edge

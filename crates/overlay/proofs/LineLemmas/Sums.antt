@@ -1,10 +1,8 @@
 -- The changes of edges, and sums of them: of the changes before a place as much is left as the edges weigh that are over it.
 use Rattle.std.proofs.Common.{◌≡◌, ◌≢◌, ◌⊎◌, inl, inr, ◌++◌, [], ◌∷◌, Bool, true, false, true≢false, cond, not, ◌&&◌, ℤ, pos, ◌+ℤ◌, ◌-ℤ◌, ◌≤ℤ◌, List, refl, ap, ap₂, sym, subst, ◌∙◌, arith}
 use Rattle.std.specs.List.{All, Contains}
-use Rattle.std.specs.List.Sorted.{IsPermutation}
 use Rattle.std.proofs.lemmas.Int.{ints}
 use Rattle.std.proofs.lemmas.List.Elements.{All-append, All-cons, All-contains, All-nil, All-weaker, Contains-append_cases, Contains-append_left, Contains-append_right}
-use Rattle.std.proofs.lemmas.List.Sorted.{All-permutation, Contains-permutation}
 use Rattle.i_tree.proofs.RootLemmas.Lists.{Contains-here, Contains-there}
 use Rattle.plane.specs.declared.edge.Edge.{Edge}
 use Rattle.noding.specs.Chains.{IsEnd}
@@ -14,8 +12,8 @@ use Rattle.overlay.specs.declared.fill.pieces.Operand.{Operand}
 use Rattle.overlay.specs.declared.fill.pieces.Operand.TheVariants.{Subject, Clip}
 use Rattle.overlay.specs.Fill.Pieces.{total}
 use Rattle.overlay.specs.Joined.{onwards}
-use Rattle.overlay.specs.Lines.{AreInOrder, before, changes_of, end_change, end_place, point_at, start_change, start_place}
-use Rattle.overlay.proofs.FillLemmas.Totals.{total-append, total-none, total-permutation, total-same}
+use Rattle.overlay.specs.Lines.{AreInOrder, IsChanged, TellAlike, TellAs, before, changes_of, end_change, end_place, point_at, start_change, start_place}
+use Rattle.overlay.proofs.FillLemmas.Totals.{total-append, total-none, total-same}
 use Rattle.overlay.proofs.LineLemmas.Parts.{onwards-ends, onwards-is, point-end, point-start, start-before}
 use Rattle.overlay.proofs.LineLemmas.Places.{before-trans, upto-before}
 
@@ -58,42 +56,49 @@ places-among operand (edge ∷ edges) =
     (All-cons (λ (change : Change). IsEndPlace (edge ∷ edges) change.place) (end_change operand edge) (changes_of operand edges) (edge, Contains-here edge edges, inr refl)
     (All-weaker (λ (change : Change). IsEndPlace edges change.place) (λ (change : Change). IsEndPlace (edge ∷ edges) change.place) (λ change (one, among, is). (one, Contains-there edge edges one among, is)) (changes_of operand edges) (places-among operand edges)))
 
--- the changes of the subject's edges and the clip's, in order
+-- the changes of the subject's edges and of the clip's
+abbrev pub plain : List Edge → List Edge → List Change
+plain subject clip = changes_of Subject subject ++ changes_of Clip clip
+
+-- changes that tell the same, in order
 pub record AreAllChanges (subject clip : List Edge) (all : List Change) : Type 0 where
-  pub moved : IsPermutation (changes_of Subject subject ++ changes_of Clip clip) all
+  pub tell : TellAs all (plain subject clip)
   pub order : AreInOrder all
 
--- there is a change at the place
-abbrev pub IsChanged : List Change → Place → Type 0
-IsChanged all place = (change : Change) × Contains all change × (change.place ≡ place)
-
 module _ (subject clip : List Edge) (all : List Change) (are : AreAllChanges subject clip all) where
-  among-subject : (change : Change) → Contains (changes_of Subject subject) change → Contains all change
-  among-subject change among = Contains-permutation (changes_of Subject subject ++ changes_of Clip clip) all change are.moved (Contains-append_left (changes_of Subject subject) (changes_of Clip clip) change among)
+  told-subject : (change : Change) → Contains (changes_of Subject subject) change → IsChanged all change.place
+  told-subject change among =
+      All-contains (λ (one : Change). IsChanged all one.place) (plain subject clip) change are.tell.all (Contains-append_left (changes_of Subject subject) (changes_of Clip clip) change among)
 
-  among-clip : (change : Change) → Contains (changes_of Clip clip) change → Contains all change
-  among-clip change among = Contains-permutation (changes_of Subject subject ++ changes_of Clip clip) all change are.moved (Contains-append_right (changes_of Subject subject) (changes_of Clip clip) change among)
+  told-clip : (change : Change) → Contains (changes_of Clip clip) change → IsChanged all change.place
+  told-clip change among =
+      All-contains (λ (one : Change). IsChanged all one.place) (plain subject clip) change are.tell.all (Contains-append_right (changes_of Subject subject) (changes_of Clip clip) change among)
 
   pub starts-changed : (edge : Edge) → Contains (subject ++ clip) edge → IsChanged all (start_at edge)
   starts-changed edge among = by (Contains-append_cases subject clip edge among)
     where
       by : Contains subject edge ⊎ Contains clip edge → IsChanged all (start_at edge)
-      by (inl first) = (start_change Subject edge, among-subject (start_change Subject edge) (All-contains (λ one. Contains (changes_of Subject subject) (start_change Subject one)) subject edge (starts-among Subject subject) first), refl)
-      by (inr second) = (start_change Clip edge, among-clip (start_change Clip edge) (All-contains (λ one. Contains (changes_of Clip clip) (start_change Clip one)) clip edge (starts-among Clip clip) second), refl)
+      by (inl first) = told-subject (start_change Subject edge) (All-contains (λ one. Contains (changes_of Subject subject) (start_change Subject one)) subject edge (starts-among Subject subject) first)
+      by (inr second) = told-clip (start_change Clip edge) (All-contains (λ one. Contains (changes_of Clip clip) (start_change Clip one)) clip edge (starts-among Clip clip) second)
 
   pub ends-changed : (edge : Edge) → Contains (subject ++ clip) edge → IsChanged all (end_at edge)
   ends-changed edge among = by (Contains-append_cases subject clip edge among)
     where
       by : Contains subject edge ⊎ Contains clip edge → IsChanged all (end_at edge)
-      by (inl first) = (end_change Subject edge, among-subject (end_change Subject edge) (All-contains (λ one. Contains (changes_of Subject subject) (end_change Subject one)) subject edge (ends-among Subject subject) first), refl)
-      by (inr second) = (end_change Clip edge, among-clip (end_change Clip edge) (All-contains (λ one. Contains (changes_of Clip clip) (end_change Clip one)) clip edge (ends-among Clip clip) second), refl)
+      by (inl first) = told-subject (end_change Subject edge) (All-contains (λ one. Contains (changes_of Subject subject) (end_change Subject one)) subject edge (ends-among Subject subject) first)
+      by (inr second) = told-clip (end_change Clip edge) (All-contains (λ one. Contains (changes_of Clip clip) (end_change Clip one)) clip edge (ends-among Clip clip) second)
+
+  places-plain : All (λ (change : Change). IsEndPlace (subject ++ clip) change.place) (plain subject clip)
+  places-plain =
+      All-append (λ (change : Change). IsEndPlace (subject ++ clip) change.place) (changes_of Subject subject) (changes_of Clip clip)
+      (All-weaker (λ (change : Change). IsEndPlace subject change.place) (λ (change : Change). IsEndPlace (subject ++ clip) change.place) (λ change (edge, among, is). (edge, Contains-append_left subject clip edge among, is)) (changes_of Subject subject) (places-among Subject subject))
+      (All-weaker (λ (change : Change). IsEndPlace clip change.place) (λ (change : Change). IsEndPlace (subject ++ clip) change.place) (λ change (edge, among, is). (edge, Contains-append_right subject clip edge among, is)) (changes_of Clip clip) (places-among Clip clip))
 
   places-all : All (λ (change : Change). IsEndPlace (subject ++ clip) change.place) all
   places-all =
-      All-permutation (λ (change : Change). IsEndPlace (subject ++ clip) change.place) (changes_of Subject subject ++ changes_of Clip clip) all are.moved
-      (All-append (λ (change : Change). IsEndPlace (subject ++ clip) change.place) (changes_of Subject subject) (changes_of Clip clip)
-      (All-weaker (λ (change : Change). IsEndPlace subject change.place) (λ (change : Change). IsEndPlace (subject ++ clip) change.place) (λ change (edge, among, is). (edge, Contains-append_left subject clip edge among, is)) (changes_of Subject subject) (places-among Subject subject))
-      (All-weaker (λ (change : Change). IsEndPlace clip change.place) (λ (change : Change). IsEndPlace (subject ++ clip) change.place) (λ change (edge, among, is). (edge, Contains-append_right subject clip edge among, is)) (changes_of Clip clip) (places-among Clip clip)))
+      All-weaker (λ (change : Change). IsChanged (plain subject clip) change.place) (λ (change : Change). IsEndPlace (subject ++ clip) change.place)
+      (λ change (other, among, same). subst (IsEndPlace (subject ++ clip)) same (All-contains (λ (one : Change). IsEndPlace (subject ++ clip) one.place) (plain subject clip) other places-plain among))
+      all are.tell.of
 
   -- where something changes an edge ends
   pub changed-end : (place : Place) → IsChanged all place → (edge : Edge) × Contains (subject ++ clip) edge × IsEnd edge (point_at place).x (point_at place).y
@@ -150,14 +155,14 @@ sum-done all done rest from place f is upto less behind =
     (All-weaker (λ (change : Change). before from change.place ≡ false) (λ (change : Change). f change ≡ passed place f change)
     (λ change e. chosen (before change.place place) (f change) (upto-before change.place from place e less)) done upto))
 
-pub sum-over : (subject clip : List Edge) (all : List Change) → AreAllChanges subject clip all → (done rest : List Change) (from place : Place) → all ≡ done ++ rest
+pub sum-over : (subject clip : List Edge) (all : List Change) → (done rest : List Change) (from place : Place) → all ≡ done ++ rest
     → All (λ (change : Change). before from change.place ≡ false) done → before from place ≡ true → All (λ (change : Change). before change.place place ≡ false) rest
-    → (f : Change → ℤ) (g h : Edge → ℤ) → ((edge : Edge) → f (start_change Subject edge) ≡ g edge) → ((edge : Edge) → f (end_change Subject edge) ≡ (pos 0 -ℤ g edge))
+    → (f : Change → ℤ) → TellAlike f all (plain subject clip) → (g h : Edge → ℤ) → ((edge : Edge) → f (start_change Subject edge) ≡ g edge) → ((edge : Edge) → f (end_change Subject edge) ≡ (pos 0 -ℤ g edge))
     → ((edge : Edge) → f (start_change Clip edge) ≡ h edge) → ((edge : Edge) → f (end_change Clip edge) ≡ (pos 0 -ℤ h edge))
     → total f done ≡ (total (of_over place g) subject +ℤ total (of_over place h) clip)
-sum-over subject clip all are done rest from place is upto less behind f g h a b c d =
+sum-over subject clip all done rest from place is upto less behind f alike g h a b c d =
     sym (sum-done all done rest from place f is upto less behind)
-    ∙ total-permutation (passed place f) (changes_of Subject subject ++ changes_of Clip clip) all are.moved
+    ∙ alike (λ (other : Place). before other place)
     ∙ total-append (passed place f) (changes_of Subject subject) (changes_of Clip clip)
     ∙ ap₂ (λ (x y : ℤ). x +ℤ y) (sum-edges Subject f g a b place subject) (sum-edges Clip f h c d place clip)
 

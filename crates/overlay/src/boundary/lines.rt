@@ -1,16 +1,19 @@
 //! Edges along one line, cut where any of them begins or ends.
 
-ghost use Rattle.std.specs.Prelude.{◌≡◌, ◌++◌, ◌+◌, ◌<◌, ◌≤◌, ◌^◌, ◌-ℤ◌, ◌≤ℤ◌, pos, All, IfOk, IsPermutation, OnOk, drop, length, take};
+ghost use Rattle.std.specs.Prelude.{◌≡◌, ◌++◌, ◌*◌, ◌<◌, ◌≤◌, ◌^◌, ◌-ℤ◌, ◌≤ℤ◌, ◌<ℤ◌, pos, All, IfOk, IsPermutation, OnOk, drop, length, take};
 ghost use Rattle.overlay.specs.declared.fill.pieces.Operand.TheVariants.{Subject, Clip};
 ghost use Rattle.overlay.specs.Joined.{onwards};
-ghost use Rattle.overlay.specs.Lines.{AreInOrder, Fit, IsUnit, all_stretches, changes_of, end_change, end_place, is_level, is_upright, line_of, piece_between, plus, point_at, start_change, start_place, stretch_between};
+ghost use Rattle.overlay.specs.Lines.{AppendsTold, AreInOrder, Fit, IsSmallChange, IsSmallRun, TellAs, all_stretches, change_at, changes_of, end_place, is_level, is_upright, line_of, longer, no_run, piece_between, plus, point_at, run_changes, run_end, run_start, start_place, stretch_between};
 
-use crate::fill::pieces::{Operand, Piece, piece_of, room_for, sum};
+use crate::fill::pieces::{Operand, Piece, countable, is_same, room_for, sum, weight};
 use plane::edge::{Edge, edge_between, end_of, reverse, start_of};
 use plane::point::Point;
 use plane::sweep_line::heights::turn_rightwards;
 use std::alloc::{AllocError, Allocator};
 use std::cmp::Ordering;
+
+// A run has at most so many edges, so that their count has room in a byte.
+const LONGEST_RUN: i8 = 127;
 
 /// A place on a line. Of an edge along an axis the line is the longest one along it, and the place is told by its coordinate
 /// there. Any other edge is a line of its own, which starts at 0 and ends at 1.
@@ -29,6 +32,14 @@ pub struct Change {
     pub clip: i8,
 }
 
+/// Edges that follow each other and are one edge onwards: this edge, how many they are, and what they weigh.
+#[derive(Clone, Copy, Debug)]
+pub struct Run {
+    pub edge: Edge,
+    pub count: i8,
+    pub weight: i8,
+}
+
 /// How many edges there are at a place, and what they weigh in subject and clip.
 #[derive(Clone, Copy, Debug)]
 pub struct Sums {
@@ -37,60 +48,125 @@ pub struct Sums {
     pub clip: i64,
 }
 
-/// The changes that the edges make: each begins somewhere and ends somewhere. The first `count` of them are the subject's.
+/// The changes that the edges make: each begins somewhere and ends somewhere. The first `count` of them are the subject's. Where
+/// edges of one of the two follow each other and are one edge, a change stands for many of them. It is refused, too, if the changes
+/// are so many that a sum of them may have more than 63 bits.
 pub fn changes_of<A: Allocator>(
     alloc: A,
     edges: &[Edge],
     count: usize,
 ) -> Result<Vec<Change, A>, AllocError>
     requires { count ≤ length edges.now }
-    ensures changes { IfOk result (λ changes. changes.items ≡ changes_of Subject (take count edges.now) ++ changes_of Clip (drop count edges.now)) }
-    ensures few { IfOk result (λ changes. length edges.now + length edges.now < 2 ^ 63) }
+    ensures tell { IfOk result (λ changes. TellAs changes.items (changes_of Subject (take count edges.now) ++ changes_of Clip (drop count edges.now))) }
+    ensures small { IfOk result (λ changes. All IsSmallChange changes.items) }
+    ensures few { IfOk result (λ changes. 127 * length changes.items < 2 ^ 63) }
 {
     let mut changes = Vec::with_capacity(alloc, room_for(edges, edges)?)?;
     append_changes(&edges[..count], Operand::Subject, &mut changes)?;
     append_changes(&edges[count..], Operand::Clip, &mut changes)?;
+    countable(LONGEST_RUN as usize, changes.len())?;
     Ok(changes)
 }
 
-// Appends the two changes of each edge.
+// Appends the two changes of each run of edges.
 fn append_changes<A: Allocator>(
     edges: &[Edge],
     operand: Operand,
     changes: &mut Vec<Change, A>,
 ) -> Result<(), AllocError>
-    ensures { OnOk result (changes.new.items ≡ changes.old.items ++ changes_of operand edges.now) }
+    ensures { OnOk result (AppendsTold operand edges.now changes.old.items changes.new.items) }
 {
+    let mut run = no_run(Edge {
+        x0: 0,
+        y0: 0,
+        x1: 0,
+        y1: 0,
+    });
+    // The last of the edges so far are the run, and the changes of those before are appended.
     for edge in edges {
-        changes.push(start_change(*edge, operand))?;
-        changes.push(end_change(*edge, operand))?;
+        let line = onwards(*edge);
+        if run.count == LONGEST_RUN || !is_same(line, run.edge) {
+            push_run(run, operand, changes)?;
+            run = no_run(line);
+        }
+        run = longer(run, *edge);
     }
+    push_run(run, operand, changes)
+}
+
+// A run of this edge that has none yet.
+fn no_run(line: Edge) -> Run
+    ensures { result ≡ no_run line }
+{
+    Run {
+        edge: line,
+        count: 0,
+        weight: 0,
+    }
+}
+
+// The run with one edge more.
+fn longer(run: Run, edge: Edge) -> Run
+    requires small { IsSmallRun run }
+    requires room { run.count <ℤ pos 127 }
+    ensures { result ≡ longer run edge }
+{
+    Run {
+        edge: run.edge,
+        count: run.count + 1,
+        weight: run.weight + small(weight(edge)),
+    }
+}
+
+// Appends what changes where the run begins and where it ends, if it has an edge.
+fn push_run<A: Allocator>(
+    run: Run,
+    operand: Operand,
+    changes: &mut Vec<Change, A>,
+) -> Result<(), AllocError>
+    requires { IsSmallRun run }
+    ensures { OnOk result (changes.new.items ≡ changes.old.items ++ run_changes operand run) }
+{
+    if run.count == 0 {
+        return Ok(());
+    }
+    changes.push(run_start(run, operand))?;
+    changes.push(run_end(run, operand))?;
     Ok(())
 }
 
-// What changes where the edge begins.
-fn start_change(edge: Edge, operand: Operand) -> Change
-    ensures { result ≡ start_change operand edge }
+// What changes where the run begins.
+fn run_start(run: Run, operand: Operand) -> Change
+    ensures { result ≡ run_start operand run }
 {
-    let piece = piece_of(edge, operand);
-    Change {
-        place: start_place(onwards(edge)),
-        count: 1,
-        subject: small(piece.subject),
-        clip: small(piece.clip),
-    }
+    change_at(start_place(run.edge), operand, run.count, run.weight)
 }
 
-// What changes where the edge ends.
-fn end_change(edge: Edge, operand: Operand) -> Change
-    ensures { result ≡ end_change operand edge }
+// What changes where the run ends.
+fn run_end(run: Run, operand: Operand) -> Change
+    requires { IsSmallRun run }
+    ensures { result ≡ run_end operand run }
 {
-    let piece = piece_of(edge, operand);
-    Change {
-        place: end_place(onwards(edge)),
-        count: -1,
-        subject: less(piece.subject),
-        clip: less(piece.clip),
+    change_at(end_place(run.edge), operand, 0 - run.count, 0 - run.weight)
+}
+
+// So many edges of the operand begin at the place, and weigh so much.
+fn change_at(place: Place, operand: Operand, count: i8, weight: i8) -> Change
+    ensures { result ≡ change_at operand place count weight }
+{
+    match operand {
+        Operand::Subject => Change {
+            place,
+            count,
+            subject: weight,
+            clip: 0,
+        },
+        Operand::Clip => Change {
+            place,
+            count,
+            subject: 0,
+            clip: weight,
+        },
     }
 }
 
@@ -101,15 +177,6 @@ fn small(weight: i64) -> i8
     ensures { result ≡ weight }
 {
     weight as i8
-}
-
-// So much less.
-fn less(weight: i64) -> i8
-    requires from { (pos 0 -ℤ pos 1) ≤ℤ weight }
-    requires upto { weight ≤ℤ pos 1 }
-    ensures { result ≡ pos 0 -ℤ weight }
-{
-    0 - small(weight)
 }
 
 /// The edge from its lesser end along x to its greater one; a vertical one from its lower end upwards.
@@ -215,8 +282,8 @@ pub fn sort_changes(changes: &mut [Change])
 /// The stretches between places at which something changes and the next ones: those that some edge goes over, with what all of
 /// these weigh.
 pub fn stretches_of<A: Allocator>(alloc: A, changes: &[Change]) -> Result<Vec<Piece, A>, AllocError>
-    requires units { All IsUnit changes.now }
-    requires few { length changes.now < 2 ^ 63 }
+    requires small { All IsSmallChange changes.now }
+    requires few { 127 * length changes.now < 2 ^ 63 }
     ensures { IfOk result (λ stretches. stretches.items ≡ all_stretches changes.now) }
 {
     let mut stretches = Vec::with_capacity(alloc, changes.len())?;

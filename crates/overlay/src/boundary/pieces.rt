@@ -16,7 +16,7 @@ ghost use Rattle.noding.specs.Stops.{AreAt, AreNodeStops, GoesToEnd, point_of};
 ghost use Rattle.noding.specs.Windings.{pieces};
 
 use super::joined::joined_edges;
-use crate::fill::pieces::{Operand, Piece, is_sloped, piece_of, room_for};
+use crate::fill::pieces::{Operand, Piece, countable, is_sloped, piece_of, room_for};
 use i_tree::Refusal;
 use noding::nodes_in_order;
 use noding::stops::{Stop, point_of};
@@ -85,16 +85,6 @@ fn edges_of<A: Allocator>(alloc: A, stretches: &[Piece]) -> Result<Vec<Edge, A>,
     ensures { IfOk result (λ edges. edges.items ≡ map (λ stretch. stretch.edge) stretches.now) }
 {
     stretches.iter().map(|stretch| stretch.edge).collect(alloc)
-}
-
-// Nothing, where so many weights of at most so much have a sum of 63 bits.
-fn countable(most: usize, count: usize) -> Result<(), AllocError>
-    ensures { OnOk result (most * count < 2 ^ 63) }
-{
-    if most.saturating_mul(count) > i64::MAX as usize {
-        return Err(AllocError);
-    }
-    Ok(())
 }
 
 // Appends the pieces of the chain of each stretch in turn, with its weights.

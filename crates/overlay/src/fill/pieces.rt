@@ -79,6 +79,16 @@ pub fn room_for<X, Y>(some: &[X], others: &[Y]) -> Result<usize, AllocError>
     Ok(all)
 }
 
+/// Nothing, where so many weights of at most so much have a sum of 63 bits.
+pub(crate) fn countable(most: usize, count: usize) -> Result<(), AllocError>
+    ensures { OnOk result (most * count < 2 ^ 63) }
+{
+    if most.saturating_mul(count) > i64::MAX as usize {
+        return Err(AllocError);
+    }
+    Ok(())
+}
+
 // Appends the piece of each edge that isn't vertical.
 fn append_turned<A: Allocator>(
     pieces: &mut Vec<Piece, A>,
@@ -121,8 +131,8 @@ pub fn piece_of(edge: Edge, operand: Operand) -> Piece
     }
 }
 
-// 1 for an edge that goes rightwards, -1 for one that goes leftwards, 0 for a vertical one.
-fn weight(edge: Edge) -> i64
+/// 1 for an edge that goes rightwards, -1 for one that goes leftwards, 0 for a vertical one.
+pub(crate) fn weight(edge: Edge) -> i64
     ensures { result ≡ weight edge }
 {
     if edge.x0 < edge.x1 {

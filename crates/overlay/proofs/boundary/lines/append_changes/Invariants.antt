@@ -1,7 +1,7 @@
-use Rattle.std.proofs.Common.{◌≡◌, ◌++◌, take}
-use Rattle.overlay.specs.Lines.{changes_of}
+use Rattle.std.proofs.Common.{take}
+use Rattle.overlay.proofs.LineLemmas.Runs.{AreRunUpto}
 use Rattle.overlay.proofs.boundary.lines.append_changes.Given as goal
 
--- the changes of the edges so far
+-- the last of the edges so far are the run, and the changes of those before are appended
 abbrev pub invariant-loop-edge : goal.invariant-loop-edge
-invariant-loop-edge g l = l.changes.items ≡ l.initial.changes.items ++ changes_of l.operand (take l.edge-index l.edges)
+invariant-loop-edge g l = AreRunUpto l.operand (take l.edge-index l.edges) l.initial.changes.items l.changes.items l.run

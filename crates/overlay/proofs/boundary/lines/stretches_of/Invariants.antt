@@ -1,4 +1,4 @@
-use Rattle.overlay.proofs.LineLemmas.Units.{AreUpto}
+use Rattle.overlay.proofs.LineLemmas.Upto.{AreUpto}
 use Rattle.overlay.proofs.boundary.lines.stretches_of.Given as goal
 
 -- the stretches upto the last of the changes so far
