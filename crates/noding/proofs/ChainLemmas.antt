@@ -1,4 +1,5 @@
--- Lemmas on how chains are made: which edges come close, what crossings round to, the stops of edges, and the runs of stops that are chains.
+-- Lemmas on how chains are made: which edges come close, what crossings round to, the stops of edges, and the runs of stops that
+-- are chains.
 pub mod Asked
 pub mod Beside
 pub mod Between

@@ -26,7 +26,8 @@ use plane::edge::Edge;
 use plane::point::Point;
 use std::alloc::{AllocError, Allocator};
 
-// With fewer crossings than one for so many edges, rounds from these tell sooner what is moved than sweeps do for all that edges pass.
+// With fewer crossings than one for so many edges, rounds from these tell sooner what is moved than sweeps do for all that
+// edges pass.
 const EDGES_PER_CROSSING: usize = 16;
 
 /// Appends the chain of each edge in turn to `points`, and to `ends` where each chain stops among these, as `snap` does; but

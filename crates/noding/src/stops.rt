@@ -33,7 +33,8 @@ const FEW_TESTS: usize = 1024;
 // Fewer yet are sooner made than the pairs of edges that come close are asked.
 const FEWEST_TESTS: usize = 96;
 
-/// A hot point that an edge passes, and none of its ends: the edge's place among all, and how far the point is along it on each axis.
+/// A hot point that an edge passes, and none of its ends: the edge's place among all, and how far the point is along it on
+/// each axis.
 #[derive(Clone, Copy, Debug, PartialEq, Eq, PartialOrd, Ord)]
 pub struct Stop {
     pub place: usize,
@@ -198,8 +199,8 @@ fn push_ends_of<A: Allocator>(
     Ok(())
 }
 
-// Appends the stop of the edge, which is at this place, at the whole point (x, y), if it passes that between its ends. Most often it
-// doesn't, which is told where it is asked.
+// Appends the stop of the edge, which is at this place, at the whole point (x, y), if it passes that between its ends. Most
+// often it doesn't, which is told where it is asked.
 #[inline(always)]
 fn push_if_inside<A: Allocator>(
     place: usize,

@@ -141,7 +141,8 @@ module _ (edges : List Edge) (crossings : List Crossing) (crossed : AreAllCrosse
         is_stop stop (inr (inr at)) = stop_crossed stop at
 
         module _ (place : ℕ) (edge : Edge) (point : Point) (at : slice_get edges place ≡ Some edge) (inside : PassesInside edge point.x point.y) where
-          -- a whole point where two edges cross, of which it is no end, lies on both between their ends, and the edge crosses one of them there
+          -- a whole point where two edges cross, of which it is no end, lies on both between their ends, and the edge crosses one
+          -- of them there
           told_whole : (one other : Edge) → Contains edges one → Contains edges other → AreNotParallel one other → LiesInside edge point → LiesInside one point → LiesInside other point
               → IsOfSome (IsStopAtCrossing edges) crossings (stop_of place edge point.x point.y)
           told_whole one other of_edges of_too slanted lies lies_one lies_other =

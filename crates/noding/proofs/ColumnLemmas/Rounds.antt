@@ -1,4 +1,5 @@
--- Edges that are moved are told in rounds, from fresh points to edges and from these to the next fresh points, until there are none.
+-- Edges that are moved are told in rounds, from fresh points to edges and from these to the next fresh points, until there are
+-- none.
 use Rattle.std.proofs.Common.{◌≡◌, ◌⊎◌, ◌∙◌, ap, inl, inr, refl, subst, sym, ⊎_elim, arith, Bool, true, false, ℕ, ℤ, ◌≤◌, List, [], ◌++◌, Some, get_or, length, replicate}
 use Rattle.std.specs.List.{All, Contains, slice_get}
 use Rattle.std.proofs.lemmas.Bool.{cases_lt, false≢true}

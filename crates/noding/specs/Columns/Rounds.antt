@@ -35,8 +35,8 @@ abbrev pub IsSetAt : {X : Type 0} → ℕ → X → List X → List X → Type 0
 IsSetAt {X} place x before after =
     (length after ≡ length before) × ((d : X) → get_or after place d ≡ x) × ((other : ℕ) (d : X) → other ≢ place → get_or after other d ≡ get_or before other d)
 
--- Where the stop doesn't lie on its edge, and this isn't flagged, it is flagged, stands at its place among the newly flagged ones, and
--- its ends are told.
+-- Where the stop doesn't lie on its edge, and this isn't flagged, it is flagged, stands at its place among the newly flagged
+-- ones, and its ends are told.
 abbrev pub FlagsIfBeside : Edge → Stop → List Bool → List Edge → List Point → List Bool → List Edge → List Point → Type 0
 FlagsIfBeside edge stop flags alone passed new_flags new_alone new_passed =
     (LiesOn edge stop ⊎ (get_or flags stop.place false ≡ true)) × (new_flags ≡ flags) × (new_alone ≡ alone) × (new_passed ≡ passed)
@@ -74,8 +74,8 @@ pub record Flags (edges : List Edge) (stops : List Stop) (flags new_flags : List
 
 -- ---- one round
 
--- What fresh points move is flagged. All stops there are told, and of those that are newly flagged all, and all hot points that they
--- pass.
+-- What fresh points move is flagged. All stops there are told, and of those that are newly flagged all, and all hot points
+-- that they pass.
 pub record Spreads (edges : List Edge) (fresh : List Point) (flags : List Bool) (stops : List Stop) (new_flags : List Bool) (new_stops : List Stop) (points : List Point) : Type 0 where
   pub found : AreFlaggedMoved edges new_flags
   pub keeps : (place : ℕ) → get_or flags place false ≡ true → get_or new_flags place false ≡ true
@@ -89,7 +89,8 @@ pub record Spreads (edges : List Edge) (fresh : List Point) (flags : List Bool) 
 
 -- ---- all rounds
 
--- All of these are stops, and of the flagged edges all are there, and of all edges those at points that move edges in the first round.
+-- All of these are stops, and of the flagged edges all are there, and of all edges those at points that move edges in the
+-- first round.
 pub record AreSpreadStops (edges : List Edge) (flags : List Bool) (stops : List Stop) : Type 0 where
   pub of : All (IsStop edges) stops
   pub moved : (place : ℕ) (edge : Edge) (point : Point) → slice_get edges place ≡ Some edge → get_or flags place false ≡ true → IsHot edges point.x point.y → PassesPoint edge point → Contains stops (stop_of place edge point.x point.y)

@@ -1,5 +1,5 @@
-//! The stops at nodes where few crossings are points with fractions: what these move is told from points to edges, and from these to
-//! the points that they pass, in some rounds. So no sweep asks for all that edges pass.
+//! The stops at nodes where few crossings are points with fractions: what these move is told from points to edges, and from
+//! these to the points that they pass, in some rounds. So no sweep asks for all that edges pass.
 
 ghost use Rattle.std.specs.Prelude.{◌≡◌, ◌<◌, All, IfErr, IfOk, IfSome, OnOk, length};
 ghost use Rattle.i_tree.specs.declared.Refusal.TheVariants.{OutOfMemory};

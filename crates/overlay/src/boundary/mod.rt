@@ -68,9 +68,8 @@ where
     Ok(())
 }
 
-/// The edges of the boundary: those that the operation keeps of the pieces of subject and clip. The status is empty before and after.
-///
-/// It is refused as `boundary` is.
+/// The edges of the boundary: those that the operation keeps of the pieces of subject and clip. The status is empty before
+/// and after. It is refused as `boundary` is.
 pub fn bounding_edges<C, A>(
     alloc: A,
     edges: &[Edge],
