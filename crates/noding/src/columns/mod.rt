@@ -5,5 +5,4 @@ pub mod crossings;
 pub mod ends;
 pub mod hot_points;
 pub mod passing;
-pub mod rounds;
 pub mod stops;
