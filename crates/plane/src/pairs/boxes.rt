@@ -14,15 +14,15 @@ pub fn boxes_meet(one: Bounds, other: Bounds) -> bool
     columns_meet(one, other) & rows_meet(one, other)
 }
 
-// Whether the boxes share an x.
-fn columns_meet(one: Bounds, other: Bounds) -> bool
+/// Whether the boxes share an x.
+pub(super) fn columns_meet(one: Bounds, other: Bounds) -> bool
     ensures { let meet = (one.left ≤ℤ other.right) × (other.left ≤ℤ one.right) in MatchBool result meet (¬ meet) }
 {
     (one.left <= other.right) & (other.left <= one.right)
 }
 
-// Whether they share a y.
-fn rows_meet(one: Bounds, other: Bounds) -> bool
+/// Whether they share a y.
+pub(super) fn rows_meet(one: Bounds, other: Bounds) -> bool
     ensures { let meet = (one.low ≤ℤ other.high) × (other.low ≤ℤ one.high) in MatchBool result meet (¬ meet) }
 {
     (one.low <= other.high) & (other.low <= one.high)

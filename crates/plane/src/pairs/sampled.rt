@@ -2,6 +2,7 @@
 
 ghost use Rattle.std.specs.Prelude.{◌≡◌, ◌-◌, ◌^◌, ◌<◌, false, IfOk, length};
 
+use super::boxes::{columns_meet, rows_meet};
 use super::budget::{Budget, LOOKS_PER_TEST};
 use super::items::{Bounds, Meets};
 use super::strips::Strips;
@@ -85,10 +86,10 @@ fn seen_before<T: Meets<T>>(items: &[T], second: usize, strips: Strips, seen: Se
 fn seen_with<T: Meets<T>>(one: T, other: T, strips: Strips, seen: Seen) -> Seen {
     let first = one.bounds();
     let second = other.bounds();
-    if !are_live_at_once(first, second) || !are_looked_at(first, second, strips) {
+    if !columns_meet(first, second) || !are_looked_at(first, second, strips) {
         return seen;
     }
-    if !have_one_height(first, second) {
+    if !rows_meet(first, second) {
         return with_looks(seen, 1);
     }
     let tested = with_looks(seen, 1 + LOOKS_PER_TEST as u64);
@@ -96,16 +97,6 @@ fn seen_with<T: Meets<T>>(one: T, other: T, strips: Strips, seen: Seen) -> Seen 
         return with_pair(tested);
     }
     tested
-}
-
-// Whether the boxes share an x.
-fn are_live_at_once(one: Bounds, other: Bounds) -> bool {
-    (one.left <= other.right) & (other.left <= one.right)
-}
-
-// Whether they share a height.
-fn have_one_height(one: Bounds, other: Bounds) -> bool {
-    (one.low <= other.high) & (other.low <= one.high)
 }
 
 // Whether their heights are no further apart than a part of a strip is wide.
