@@ -136,6 +136,10 @@ pub record IsStopOf (IsNode : Edge → ℤ → ℤ → Type 0) (edges : List Edg
   pub node : IsNode edge (point_of edge stop).x (point_of edge stop).y
   pub inside : PassesInside edge (point_of edge stop).x (point_of edge stop).y
 
+-- One of some edge, at a hot point that this passes between its ends.
+abbrev pub IsStop : List Edge → Stop → Type 0
+IsStop edges stop = IsStopOf (λ edge x y. IsHot edges x y × Passes edge x y) edges stop
+
 -- All stops of the edges at their nodes, in order.
 pub record AreStopsOf (IsNode : Edge → ℤ → ℤ → Type 0) (edges : List Edge) (stops : List Stop) : Type 0 where
   pub each : (place : ℕ) (edge : Edge) (x y : ℤ) → slice_get edges place ≡ Some edge → IsNode edge x y → PassesInside edge x y → Contains stops (stop_of place edge x y)

@@ -15,6 +15,7 @@ use crate::close::close_pairs;
 use crate::columns::crossings::{CrossingsAndPoints, crossings_and_points};
 use crate::columns::ends::{are_at_ends, nodes_at_ends};
 use crate::columns::hot_points::ends_in_order;
+use crate::columns::rounds::nodes_in_rounds;
 use crate::columns::stops::stops_by_columns;
 use crate::crossings::{Crossing, crossings_of_pairs};
 use crate::distinct::{distinct_of, stops_of_each};
@@ -24,6 +25,10 @@ use i_tree::Refusal;
 use plane::edge::Edge;
 use plane::point::Point;
 use std::alloc::{AllocError, Allocator};
+
+// With fewer crossings than one for so many edges, rounds from these tell sooner what is moved than sweeps do for all that
+// edges pass.
+const EDGES_PER_CROSSING: usize = 16;
 
 /// Appends the chain of each edge in turn to `points`, and to `ends` where each chain stops among these, as `snap` does; but
 /// edges are moved only where they must be.
@@ -96,6 +101,11 @@ fn nodes_by_columns<A: Allocator + Copy>(alloc: A, edges: &[Edge]) -> Result<Vec
     if are_at_ends(edges, &crossings) {
         return nodes_at_ends(alloc, edges, &crossings, &ends, &on);
     }
+    if crossings.len() <= edges.len() / EDGES_PER_CROSSING
+        && let Some(nodes) = nodes_in_rounds(alloc, edges, &crossings, &ends, &on)?
+    {
+        return Ok(nodes);
+    }
     let stops = stops_by_columns(alloc, edges, &crossings)?;
     let nodes = nodes_of_stops(alloc, edges, &crossings, stops)?;
     Ok(nodes)
@@ -134,8 +144,8 @@ fn lie_on_edges(edges: &[Edge], stops: &[Stop]) -> bool
     true
 }
 
-// Those of the stops that lie on their edges, or whose edges are moved.
-fn nodes_of<A: Allocator>(
+/// Those of the stops that lie on their edges, or whose edges are moved.
+pub(crate) fn nodes_of<A: Allocator>(
     alloc: A,
     edges: &[Edge],
     stops: &[Stop],

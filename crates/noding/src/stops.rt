@@ -326,8 +326,8 @@ fn is_of_crossing(place: usize, crossing: Crossing) -> bool
     place == crossing.one || place == crossing.other
 }
 
-// Appends the stops of the two edges of each crossing at its point.
-fn push_stops_of_crossings<A: Allocator>(
+/// Appends the stops of the two edges of each crossing at its point.
+pub(crate) fn push_stops_of_crossings<A: Allocator>(
     edges: &[Edge],
     crossings: &[Crossing],
     stops: &mut Vec<Stop, A>,
@@ -359,9 +359,9 @@ fn push_stops_of_both<A: Allocator>(
     Ok(())
 }
 
-// Appends the stops of all edges at these points. They are sought in the sections of edges, and where that takes more tests than
-// edges mostly need, by columns.
-fn push_stops_at_points<A: Allocator + Copy>(
+/// Appends the stops of all edges at these points. They are sought in the sections of edges, and where that takes more tests than
+/// edges mostly need, by columns.
+pub(crate) fn push_stops_at_points<A: Allocator + Copy>(
     edges: &[Edge],
     points: &[Point],
     stops: &mut Vec<Stop, A>,

@@ -9,10 +9,9 @@ use Rattle.std.proofs.lemmas.Option.{same_Some, slice_get-get_or, slice_get_with
 use Rattle.plane.specs.declared.edge.Edge.{Edge}
 use Rattle.plane.specs.declared.point.Point.{Point}
 use Rattle.plane.specs.Meet.Kinds.{HasPoint}
-use Rattle.noding.specs.Chains.{IsHot, Passes}
 use Rattle.noding.specs.Close.{PassesInside}
 use Rattle.noding.specs.Local.{AreMoved, IsMoved, IsNode}
-use Rattle.noding.specs.Stops.{AppendsIfKept, AreKept, AreNodeStops, AreStops, IsBefore, IsKept, IsKeptAmong, IsStopOf, LiesOn, LiesOnItsEdge, stop_of}
+use Rattle.noding.specs.Stops.{AppendsIfKept, AreKept, AreNodeStops, AreStops, IsBefore, IsKept, IsKeptAmong, IsStop, IsStopOf, LiesOn, LiesOnItsEdge, stop_of}
 use Rattle.noding.specs.declared.stops.Stop.{Stop}
 use Rattle.noding.proofs.ChainLemmas.Stops.{point-of_stop}
 use Rattle.noding.proofs.ChainLemmas.Zips.{AllZip-at}
@@ -116,6 +115,48 @@ kept-none edges moved = record {
 
 -- ---- nodes
 
+module _ (edges : List Edge) (moved : List Bool) (told : AreMoved edges moved) where
+  -- what is told of the edge at a place
+  pub moved-at : (place : ℕ) (edge : Edge) → slice_get edges place ≡ Some edge → (get_or moved place false ≡ true) ↔ IsMoved edges edge
+  moved-at place edge stands =
+      let within = slice_get_within edges place edge stands in
+      let same : get_or edges place edge ≡ edge = same_Some _ _ (sym (slice_get-get_or edges place edge within) ∙ stands) in
+      subst (λ (it : Edge). (get_or moved place false ≡ true) ↔ IsMoved edges it) same
+      (same_is (get_or moved place false) (AllZip-at (λ edge is_moved. MatchBool is_moved (IsMoved edges edge) (¬ (IsMoved edges edge))) edges moved edge false place told within))
+    where
+      same_is : {A : Type 0} (flag : Bool) → MatchBool flag A (¬ A) → (flag ≡ true) ↔ A
+      same_is true is = (λ same. is, λ a. refl)
+      same_is false none = (λ same. absurd (cc), λ a. absurd (none a))
+
+  -- so of stops that have all nodes those that are kept are the nodes
+  module _ (stops : List Stop) (have : (place : ℕ) (edge : Edge) (x y : ℤ) → slice_get edges place ≡ Some edge → IsNode edges edge x y → PassesInside edge x y → Contains stops (stop_of place edge x y)) (all : All (IsStop edges) stops) where
+    pub AreNodeStops-among : (nodes : List Stop) → AreKept edges moved stops nodes → AreNodeStops edges nodes
+    AreNodeStops-among nodes kept = record { each = each; of = of; in_order = kept.in_order }
+      where
+        each : (place : ℕ) (edge : Edge) (x y : ℤ) → slice_get edges place ≡ Some edge → IsNode edges edge x y → PassesInside edge x y → Contains nodes (stop_of place edge x y)
+        each place edge x y stands (hot, passes, node) inside =
+            (kept.exact (stop_of place edge x y)).1 (
+              have place edge x y stands (hot, passes, node) inside,
+              record {
+                edge = edge;
+                stands = stands;
+                kept = ⊎_elim (λ on. inl (subst (λ (p : Point). HasPoint edge p.x p.y) (sym (point-of_stop place edge x y)) on)) (λ is. inr ((moved-at place edge stands).1 is)) node;
+              },
+            )
+
+        of : All (IsStopOf (IsNode edges) edges) nodes
+        of k d within =
+            let stop = get_or nodes k d in
+            let (held, its) = (kept.exact stop).0 (Contains-get_or nodes k d within) in
+            let is = All-contains (IsStop edges) stops stop all held in
+            let same : its.edge ≡ is.edge = same_Some _ _ (sym its.stands ∙ is.stands) in
+            let why : IsKept is.edge (get_or moved stop.place false) stop = subst (λ (it : Edge). IsKept it (get_or moved stop.place false) stop) same its.kept in record {
+              edge = is.edge;
+              stands = is.stands;
+              node = (is.node.0, is.node.1, ⊎_elim inl (λ flag. inr ((moved-at stop.place is.edge is.stands).0 flag)) why);
+              inside = is.inside;
+            }
+
 module _ (edges : List Edge) (stops : List Stop) (are : AreStops edges stops) where
   -- stops that all lie on their edges are nodes
   pub AreNodeStops-on : All (LiesOnItsEdge edges) stops → AreNodeStops edges stops
@@ -130,43 +171,6 @@ module _ (edges : List Edge) (stops : List Stop) (are : AreStops edges stops) wh
     in_order = are.in_order;
   }
 
-  module _ (moved : List Bool) (told : AreMoved edges moved) where
-    -- what is told of the edge at a place
-    moved-at : (place : ℕ) (edge : Edge) → slice_get edges place ≡ Some edge → (get_or moved place false ≡ true) ↔ IsMoved edges edge
-    moved-at place edge stands =
-        let within = slice_get_within edges place edge stands in
-        let same : get_or edges place edge ≡ edge = same_Some _ _ (sym (slice_get-get_or edges place edge within) ∙ stands) in
-        subst (λ (it : Edge). (get_or moved place false ≡ true) ↔ IsMoved edges it) same
-        (same_is (get_or moved place false) (AllZip-at (λ edge is_moved. MatchBool is_moved (IsMoved edges edge) (¬ (IsMoved edges edge))) edges moved edge false place told within))
-      where
-        same_is : {A : Type 0} (flag : Bool) → MatchBool flag A (¬ A) → (flag ≡ true) ↔ A
-        same_is true is = (λ same. is, λ a. refl)
-        same_is false none = (λ same. absurd (cc), λ a. absurd (none a))
-
-    -- so those that are kept are nodes
-    pub AreNodeStops-kept : (nodes : List Stop) → AreKept edges moved stops nodes → AreNodeStops edges nodes
-    AreNodeStops-kept nodes kept = record { each = each; of = of; in_order = kept.in_order }
-      where
-        each : (place : ℕ) (edge : Edge) (x y : ℤ) → slice_get edges place ≡ Some edge → IsNode edges edge x y → PassesInside edge x y → Contains nodes (stop_of place edge x y)
-        each place edge x y stands (hot, passes, node) inside =
-            (kept.exact (stop_of place edge x y)).1 (
-              are.each place edge x y stands (hot, passes) inside,
-              record {
-                edge = edge;
-                stands = stands;
-                kept = ⊎_elim (λ on. inl (subst (λ (p : Point). HasPoint edge p.x p.y) (sym (point-of_stop place edge x y)) on)) (λ is. inr ((moved-at place edge stands).1 is)) node;
-              },
-            )
-
-        of : All (IsStopOf (IsNode edges) edges) nodes
-        of k d within =
-            let stop = get_or nodes k d in
-            let (held, its) = (kept.exact stop).0 (Contains-get_or nodes k d within) in
-            let is = All-contains (IsStopOf (λ edge x y. IsHot edges x y × Passes edge x y) edges) stops stop are.of held in
-            let same : its.edge ≡ is.edge = same_Some _ _ (sym its.stands ∙ is.stands) in
-            let why : IsKept is.edge (get_or moved stop.place false) stop = subst (λ (it : Edge). IsKept it (get_or moved stop.place false) stop) same its.kept in record {
-              edge = is.edge;
-              stands = is.stands;
-              node = (is.node.0, is.node.1, ⊎_elim inl (λ flag. inr ((moved-at stop.place is.edge is.stands).0 flag)) why);
-              inside = is.inside;
-            }
+  -- and so are, of all stops, those that are kept
+  pub AreNodeStops-kept : (moved : List Bool) → AreMoved edges moved → (nodes : List Stop) → AreKept edges moved stops nodes → AreNodeStops edges nodes
+  AreNodeStops-kept moved told = AreNodeStops-among edges moved told stops (λ place edge x y stands node inside. are.each place edge x y stands (node.0, node.1) inside) are.of

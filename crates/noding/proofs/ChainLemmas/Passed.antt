@@ -17,7 +17,7 @@ use Rattle.noding.specs.Chains.{IsEnd, IsHot, Passes, Upto}
 use Rattle.noding.specs.Close.{ComeClose, PassesInside, ShareEnd}
 use Rattle.noding.specs.Crossings.{AreCrossed, CrossInside, IsCrossingOf}
 use Rattle.noding.specs.Offsets.{between}
-use Rattle.noding.specs.Stops.{AreStops, IsBefore, IsStopAtCrossing, IsStopOfPair, Split, point_of, stop_of}
+use Rattle.noding.specs.Stops.{AreStops, IsBefore, IsStop, IsStopAtCrossing, IsStopOfPair, Split, point_of, stop_of}
 use Rattle.noding.specs.declared.crossings.Crossing.{Crossing}
 use Rattle.noding.specs.declared.stops.Stop.{Stop}
 use Rattle.noding.proofs.ChainLemmas.Close.{ComeClose-exchanged, shared, shared-from}
@@ -25,7 +25,7 @@ use Rattle.noding.proofs.ChainLemmas.Copies.{in_run, of_run, run-at, run-place, 
 use Rattle.noding.proofs.ChainLemmas.Crossed.{passes-first, passes-second}
 use Rattle.noding.proofs.ChainLemmas.Crossings.{CrossAt-end, crossed-at, crossed-pair, hot_cases, pair-crossed}
 use Rattle.noding.proofs.ChainLemmas.Ends.{end_or_not}
-use Rattle.noding.proofs.ChainLemmas.Stops.{AreStops-told, IsStop, IsStop-along, end-stop, end_told, point-of_stop, upto-before}
+use Rattle.noding.proofs.ChainLemmas.Stops.{AreStops-told, IsStop-along, end-stop, end_told, point-of_stop, upto-before}
 use Rattle.noding.proofs.SnapLemmas.Apart.{near-passed}
 use Rattle.noding.proofs.SnapLemmas.Reversed.{Passes-reversed}
 use Rattle.noding.proofs.SnapLemmas.Rising.{not-above, not-before, not-behind, not-below}

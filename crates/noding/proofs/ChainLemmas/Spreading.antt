@@ -64,7 +64,7 @@ match_told true A to from = to refl
 match_told false A to from = λ a. let is = from a in absurd (cc)
 
 -- flags tell which edges are moved, as they tell it at each place
-AreMoved-places : (edges : List Edge) (d : Edge) (flags : List Bool) → length flags ≡ length edges → ((k : ℕ) (edge : Edge) → slice_get edges k ≡ Some edge → get_or flags k false ≡ true → IsMoved edges edge)
+pub AreMoved-places : (edges : List Edge) (d : Edge) (flags : List Bool) → length flags ≡ length edges → ((k : ℕ) (edge : Edge) → slice_get edges k ≡ Some edge → get_or flags k false ≡ true → IsMoved edges edge)
     → ((k : ℕ) (edge : Edge) → slice_get edges k ≡ Some edge → IsMoved edges edge → get_or flags k false ≡ true) → AreMoved edges flags
 AreMoved-places edges d flags size to from =
     AllZip-places (λ edge is_moved. MatchBool is_moved (IsMoved edges edge) (¬ (IsMoved edges edge))) edges flags d false size
@@ -73,9 +73,13 @@ AreMoved-places edges d flags size to from =
     match_told (get_or flags k false) (IsMoved edges (get_or edges k d)) (to k (get_or edges k d) stands) (from k (get_or edges k d) stands))
 
 -- what moves edges is hot
-Moves-hot : (edges : List Edge) (x y : ℤ) → Moves edges x y → IsHot edges x y
+pub Moves-hot : (edges : List Edge) (x y : ℤ) → Moves edges x y → IsHot edges x y
 Moves-hot edges x y (zero, (one, other, among, other_among, (slanted, (at, of_one, of_other, rounds, beside)))) = inr (one, other, among, other_among, (slanted, (at, of_one, of_other, rounds)))
 Moves-hot edges x y (suc round, (hot, by)) = hot
+
+-- hot points that a moved edge passes move edges
+pub Moves-passed : (edges : List Edge) (edge : Edge) (x y : ℤ) → Contains edges edge → IsMoved edges edge → IsHot edges x y → Passes edge x y → Moves edges x y
+Moves-passed edges edge x y among (a, b, (round, moves), passes_there, beside) hot passes = (suc round, (hot, (edge, among, passes, (a, b, moves, passes_there, beside))))
 
 module _ (edges : List Edge) (points : List Point) (ends : List ℕ) (first : List Point) (visits : List Visit) (early : List Bool) (chains : List (List Point)) (are : AreChains edges chains) (joined : AreJoined chains points ends) (begins : AreFirst edges first) (told : AreVisits edges early visits) where
   pub same_count : length ends ≡ length edges
@@ -95,9 +99,9 @@ module _ (edges : List Edge) (points : List Point) (ends : List ℕ) (first : Li
 
   -- what a moved edge passes moves edges
   moves-on : (place : ℕ) (edge : Edge) (point : Point) → slice_get edges place ≡ Some edge → IsMoved edges edge → Contains (chain_of place points ends) point → Moves edges point.x point.y
-  moves-on place edge point stands (a, b, (round, moves), passes_there, beside) held =
+  moves-on place edge point stands moved held =
       let (hot, passes) = ((chain-at place edge stands).exact point).0 held in
-      (suc round, (hot, (edge, held-at edges place edge stands, passes, (a, b, moves, passes_there, beside))))
+      Moves-passed edges edge point.x point.y (held-at edges place edge stands) moved hot passes
 
   -- what a point that moves edges moves is moved
   moved-at : (point : Point) → Moves edges point.x point.y → (place : ℕ) → IsMovedAt visits point place → IsMovedPlace edges place

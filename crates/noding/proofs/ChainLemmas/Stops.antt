@@ -14,7 +14,7 @@ use Rattle.noding.specs.Close.{ComeClose, PassesEnd, PassesInside, PassesPoint}
 use Rattle.plane.proofs.PointLemmas.{whole_point}
 use Rattle.noding.specs.Crossings.{AreHot}
 use Rattle.plane.specs.Gains.{GainsThese, HaveSame, IsOfSome}
-use Rattle.noding.specs.Stops.{AreStops, IsBefore, IsStopAlong, IsStopAmong, IsStopAt, IsStopAtEnd, IsStopCrossed, IsStopOf, IsStopOfPair, point_of, stop_of, reflected}
+use Rattle.noding.specs.Stops.{AreStops, IsBefore, IsStop, IsStopAlong, IsStopAmong, IsStopAt, IsStopAtEnd, IsStopCrossed, IsStopOfPair, point_of, reflected, stop_of}
 use Rattle.noding.specs.declared.stops.Stop.{Stop}
 use Rattle.noding.proofs.ChainLemmas.Crossings.{crossing-hot, hot_cases}
 use Rattle.plane.proofs.GainsLemmas.{gains-join, gains-only, gains-same, held-at, place-of}
@@ -104,10 +104,6 @@ module _ (edge other : Edge) (x y : ℤ) (passes : PassesInside edge x y) where
   stop_at_end : (place : ℕ) → IsEnd other x y → IsStopAtEnd other place edge (stop_of place edge x y)
   stop_at_end place (inl (same_x, same_y)) = inl (at_end edge other.x0 other.y0 x y same_x same_y passes, ap₂ (stop_of place edge) same_x same_y)
   stop_at_end place (inr (same_x, same_y)) = inr (at_end edge other.x1 other.y1 x y same_x same_y passes, ap₂ (stop_of place edge) same_x same_y)
-
--- A stop at a hot point that the edge passes.
-abbrev pub IsStop : List Edge → Stop → Type 0
-IsStop edges stop = IsStopOf (λ edge x y. IsHot edges x y × Passes edge x y) edges stop
 
 -- a stop at a hot point
 pub IsStop-along : (edges : List Edge) (place : ℕ) (edge : Edge) (x y : ℤ) (stop : Stop) → slice_get edges place ≡ Some edge → IsHot edges x y → IsStopAlong place edge x y stop → IsStop edges stop

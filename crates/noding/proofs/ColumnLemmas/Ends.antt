@@ -190,11 +190,11 @@ alone_upright : (edge : Edge) → edge.x0 ≡ edge.x1 → upright_alone edge ≡
 alone_upright edge same = ap (λ (b : Bool). cond b edge nowhere) ((Decides-int_eq edge.x0 edge.x1).1 same)
 
 -- what lies on an edge it passes
-passes_held : (edge : Edge) (point : Point) → HasPoint edge point.x point.y → Passes edge point.x point.y
+pub passes_held : (edge : Edge) (point : Point) → HasPoint edge point.x point.y → Passes edge point.x point.y
 passes_held edge point (there, of, at) = (there, of, RoundsTo-at there point.x point.y at)
 
 -- a point has no point but its ends
-not_level : (edge : Edge) (point : Point) → edge.x0 ≡ edge.x1 → LiesInside edge point → edge.y0 ≢ edge.y1
+pub not_level : (edge : Edge) (point : Point) → edge.x0 ≡ edge.x1 → LiesInside edge point → edge.y0 ≢ edge.y1
 not_level edge point same (on, none) level =
     let box = Passes-in_box edge point.x point.y (passes_held edge point on) in
     let left = box.left in

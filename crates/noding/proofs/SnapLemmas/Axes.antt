@@ -59,7 +59,7 @@ IsOf-parts edge k n m x y some more is (a, at) = (
         subst (λ (j : ℕ). (pos j *ℤ z) ≡ ((pos j *ℤ from) +ℤ (pos (k * a) *ℤ (to -ℤ from)))) (sym is) there
 
 -- a product of two numbers that aren't 0
-some_product : (a b : ℤ) → a ≢ pos 0 → b ≢ pos 0 → (a *ℤ b) ≢ pos 0
+pub some_product : (a b : ℤ) → a ≢ pos 0 → b ≢ pos 0 → (a *ℤ b) ≢ pos 0
 some_product (pos zero) b some many is = some refl
 some_product (pos (suc a)) (pos zero) some many is = many refl
 some_product (negsuc a) (pos zero) some many is = many refl

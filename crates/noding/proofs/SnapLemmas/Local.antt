@@ -224,6 +224,13 @@ cancelled m n p c some is =
     let back = unscaled m (pos n *ℤ c) p some (omega (arith, ints, same)) in
     omega (arith, ints, upto, back)
 
+-- a whole point that lies on two edges is a common point of them
+pub common-at : (one other : Edge) (x y : ℤ) → HasPoint one x y → HasPoint other x y → (point : RationalPoint) × IsOf one point × IsOf other point × IsAt point x y
+common-at one other x y (first, first_of, first_at) (second, second_of, second_at) =
+    let some = mul-pos first.positive second.positive in
+    let n = first.n * second.n in
+    (whole_at n some x y, whole-of one x y first second.n n some (omega arith) first_of first_at, whole-of other x y second first.n n some (omega arith) second_of second_at, record { x_is = refl; y_is = refl })
+
 -- the common point of two edges that aren't parallel is a whole point that lies on both
 pub common_whole : (one other : Edge) (point : RationalPoint) (x y : ℤ) → AreNotParallel one other → IsOf one point → IsOf other point → HasPoint one x y → HasPoint other x y → IsAt point x y
 common_whole one other point x y apart of_one of_other (first, first_of, first_at) (second, second_of, second_at) =

@@ -70,8 +70,8 @@ pub fn nodes_at_ends<A: Allocator + Copy>(
     Ok(stops)
 }
 
-// Pairs of places of an edge and of a point, among them all where the edge is upright and the point lies on it between its ends.
-fn pairs_on_uprights<A: Allocator + Copy>(
+/// Pairs of places of an edge and of a point, among them all where the edge is upright and the point lies on it between its ends.
+pub(super) fn pairs_on_uprights<A: Allocator + Copy>(
     alloc: A,
     edges: &[Edge],
     points: &[Point],
@@ -127,8 +127,8 @@ fn upright_alone(edge: Edge) -> Edge
     }
 }
 
-// Appends the stops of the pairs of an edge and a point that lies on it between its ends.
-fn push_stops_on<A: Allocator>(
+/// Appends the stops of the pairs of an edge and a point that lies on it between its ends.
+pub(super) fn push_stops_on<A: Allocator>(
     edges: &[Edge],
     points: &[Point],
     pairs: &[(usize, usize)],

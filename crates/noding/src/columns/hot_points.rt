@@ -50,8 +50,11 @@ fn push_ends<A: Allocator>(edges: &[Edge], points: &mut Vec<Point, A>) -> Result
     Ok(())
 }
 
-// Appends the two ends of the edge.
-fn push_both_ends<A: Allocator>(edge: Edge, points: &mut Vec<Point, A>) -> Result<(), AllocError>
+/// Appends the two ends of the edge.
+pub(super) fn push_both_ends<A: Allocator>(
+    edge: Edge,
+    points: &mut Vec<Point, A>,
+) -> Result<(), AllocError>
     ensures { OnOk result (GainsThese (IsEndOf edge) points.old.items points.new.items) }
 {
     points.push(start_of(edge))?;
@@ -59,8 +62,8 @@ fn push_both_ends<A: Allocator>(edge: Edge, points: &mut Vec<Point, A>) -> Resul
     Ok(())
 }
 
-// Appends the points of the crossings.
-fn push_points<A: Allocator>(
+/// Appends the points of the crossings.
+pub(super) fn push_points<A: Allocator>(
     crossings: &[Crossing],
     points: &mut Vec<Point, A>,
 ) -> Result<(), AllocError>

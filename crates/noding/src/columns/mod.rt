@@ -5,4 +5,5 @@ pub mod crossings;
 pub mod ends;
 pub mod hot_points;
 pub mod passing;
+pub mod rounds;
 pub mod stops;

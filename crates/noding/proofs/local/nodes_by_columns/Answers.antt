@@ -28,3 +28,10 @@ pub nodes_at_ends-requires-clause-within : goal.nodes_at_ends-requires-clause-wi
 nodes_at_ends-requires-clause-within g c =
     subst₂ (λ (points : List Point) (pairs : List (ℕ × ℕ)). All (λ pair. (pair.0 < length c.args.edges.now) × (pair.1 < length points)) pairs)
     (c.deref.ensures.value ∙ sym c.deref-then-are_at_ends-2.ensures.value) (sym c.deref-then-are_at_ends-3.ensures.value) c.in_ok-crossings.ensures.within
+
+pub nodes_in_rounds-requires-clause-ends : goal.nodes_in_rounds-requires-clause-ends
+nodes_in_rounds-requires-clause-ends g c = subst (AreEnds c.args.edges.now) (sym c.deref-4.ensures.value) c.in_ok-ends.ensures
+
+pub nodes_in_rounds-requires-clause-on : goal.nodes_in_rounds-requires-clause-on
+nodes_in_rounds-requires-clause-on g c =
+    subst₂ (HaveAllOn c.args.edges.now) (c.deref.ensures.value ∙ sym c.deref-4.ensures.value) (sym c.deref-5.ensures.value) c.in_ok-crossings.ensures.on
