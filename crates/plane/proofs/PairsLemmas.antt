@@ -13,6 +13,7 @@ pub mod Ordered
 pub mod Pairs
 pub mod Parts
 pub mod Points
+pub mod Runs
 pub mod Served
 pub mod Serving
 pub mod Sorted

@@ -5,5 +5,6 @@ pub mod OfTwo
 pub mod Pairs
 pub mod Parts
 pub mod Points
+pub mod Runs
 pub mod Strips
 pub mod Sweep

@@ -1,5 +1,5 @@
 -- Comparisons that a sweep by columns counts, one stretch of them after another.
-use Rattle.std.proofs.Common.{◌≡◌, ◌∙◌, ℕ, ◌+◌, ◌*◌, ◌^◌, ◌<◌, ◌≤◌, List, [], ◌∷◌, ◌++◌, length, length-append, ap, arith}
+use Rattle.std.proofs.Common.{◌≡◌, ◌∙◌, ℕ, ◌+◌, ◌*◌, ◌≤◌, List, [], ◌∷◌, ◌++◌, length, length-append, ap, arith}
 use Rattle.std.proofs.Math.Nat.{mul-le-mul_left}
 use Rattle.i_tree.specs.Root.Descent.{Searches}
 use Rattle.i_tree.specs.Root.Steps.{Accumulates, Counts, nothing, one_comparison, together}

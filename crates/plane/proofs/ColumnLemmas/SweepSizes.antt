@@ -1,6 +1,6 @@
 -- How many events a sweep by columns has, and how many edges its line. Numbers that are apart and below a number are no more
 -- than it.
-use Rattle.std.proofs.Common.{◌≡◌, ◌≢◌, inl, inr, true, false, ℕ, ◌≤◌, ◌<◌, ◌+◌, ◌*◌, ℤ, pos, ◌<ℤ◌, List, Option, eqb, length, get_or, map, sym, ap, ◌∙◌, subst, arith, ◌⊎◌}
+use Rattle.std.proofs.Common.{◌≡◌, ◌≢◌, inl, inr, true, false, ℕ, ◌≤◌, ◌<◌, ◌+◌, ◌*◌, ℤ, pos, ◌<ℤ◌, List, Option, eqb, length, get_or, map, sym, ap, ◌∙◌, arith, ◌⊎◌}
 use Rattle.std.specs.List.{All, AllPairs}
 use Rattle.std.proofs.lemmas.Bool.Decides.{Decides-eqb, eqb_tells}
 use Rattle.std.proofs.lemmas.Int.{ints}

@@ -3,6 +3,7 @@ use Rattle.std.proofs.Common.{◌≡◌, ◌↔◌, ◌⊎◌, inl, inr, ℕ, �
 use Rattle.std.specs.List.{slice_get}
 use Rattle.std.proofs.lemmas.Bool.{cases_lt}
 use Rattle.std.proofs.lemmas.Int.{ints}
+use Rattle.std.proofs.lemmas.List.{length-map}
 use Rattle.std.proofs.lemmas.Option.{same_Some, slice_get-map, slice_get_within}
 use Rattle.plane.specs.Pairs.Bounds.{BoundsMeet, IsAroundThese, IsFromUpto, IsWithinBox, MeetInBoxes}
 use Rattle.plane.specs.Pairs.Pairs.{PairAt}
@@ -12,6 +13,10 @@ use Rattle.plane.specs.declared.pairs.items.Bounds.{Bounds}
 -- what a function makes of an item stands where the item does
 pub mapped_at : {X Y : Type 0} (f : X → Y) (xs : List X) (i : ℕ) (x : X) → slice_get xs i ≡ Some x → slice_get (map f xs) i ≡ Some (f x)
 mapped_at f xs i x is = let there = slice_get-map f xs i in let same = is in cc
+
+-- there are as many boxes as items
+pub same-size : {X : Type 0} (bounds : X → Bounds) (items : List X) (boxes : List Bounds) → boxes ≡ map bounds items → length boxes ≡ length items
+same-size bounds items boxes are = ap length are ∙ length-map items bounds
 
 -- ---- of one list
 
@@ -54,42 +59,6 @@ module _ {X : Type 0} (Meeting : X → X → Type 0) (items : List X) (second : 
 -- ---- of runs of one list
 
 module _ {X : Type 0} (Meeting : X → X → Type 0) (items : List X) (from to : ℕ) where
-  -- one more item has its pairs with those of a run
-  pub run_more : (second : ℕ)
-      → (i j : ℕ) → (IsFromUpto from to i × (j < second + 1) × PairAt Meeting items i j) ↔ ((IsFromUpto from to i × (j < second) × PairAt Meeting items i j) ⊎ (IsFromUpto from to i × (j ≡ second) × PairAt Meeting items i j))
-  run_more second i j = (
-    λ (within, below, pair). elim (cases_lt j second) [
-      | inl before ↦ inl (within, before, pair)
-      | inr upto ↦ inr (within, omega (arith, below, upto), pair)
-    ],
-    λ told. elim told [
-      | inl (within, before, pair) ↦ (within, omega (arith, before), pair)
-      | inr (within, is, pair) ↦ (within, omega (arith, is), pair)
-    ],
-  )
-
-  -- behind the last item there is none
-  pub run_all : (second : ℕ) → length items ≤ second → (i j : ℕ) → (IsFromUpto from to i × PairAt Meeting items i j) ↔ (IsFromUpto from to i × (j < second) × PairAt Meeting items i j)
-  run_all second all i j = (λ (within, pair). (within, (let inside = slice_get_within items j pair.other pair.second in omega (arith, inside, all)), pair), λ (within, _, pair). (within, pair))
-
-  -- the pairs of the next run, behind those of the items before it
-  pub runs_more : from ≤ to
-      → (i j : ℕ) → ((i < to) × PairAt Meeting items i j) ↔ (((i < from) × PairAt Meeting items i j) ⊎ (IsFromUpto from to i × PairAt Meeting items i j))
-  runs_more rising i j = (
-    λ (below, pair). elim (cases_lt i from) [
-      | inl before ↦ inl (before, pair)
-      | inr behind ↦ inr ((behind, below), pair)
-    ],
-    λ told. elim told [
-      | inl (before, pair) ↦ (omega (arith, before, rising), pair)
-      | inr ((_, below), pair) ↦ (below, pair)
-    ],
-  )
-
-  -- behind the last item no run begins
-  pub runs_all : length items ≤ to → (i j : ℕ) → PairAt Meeting items i j ↔ ((i < to) × PairAt Meeting items i j)
-  runs_all all i j = (λ pair. (let inside = slice_get_within items i pair.one pair.first in omega (arith, inside, all), pair), λ (_, pair). pair)
-
   -- one more item of the run
   pub within_more : (second first : ℕ) → from ≤ first → first < to
       → (i j : ℕ) → (IsFromUpto from to i × (i < first + 1) × (j ≡ second) × PairAt Meeting items i j) ↔ ((IsFromUpto from to i × (i < first) × (j ≡ second) × PairAt Meeting items i j) ⊎ ((i ≡ first) × (j ≡ second) × PairAt Meeting items i j))
@@ -163,6 +132,21 @@ module _ {X : Type 0} {bounds : X → Bounds} {Meeting : X → X → Type 0} (bo
       let its : slice_get boxes j ≡ Some (bounds pair.other) = ap (λ (list : List Bounds). slice_get list j) are ∙ mapped_at bounds items j pair.other pair.second in
       let same : bounds pair.other ≡ other = same_Some (bounds pair.other) other (sym its ∙ ap (slice_get boxes) at ∙ stands) in
       apart (subst (BoundsMeet around) same (meet-around (bounds pair.one) around (bounds pair.other) (is_around i (bounds pair.one) mine within.0 within.1) (boxed.near pair.one pair.other pair.meet)))
+
+  -- items of two runs have no pairs, where the boxes around these don't meet
+  pub two_apart : (begin end : ℕ) (other_around : Bounds) → IsAroundThese begin end boxes other_around → ¬ (BoundsMeet around other_around) → (i j : ℕ) → ¬ (IsFromUpto from to i × IsFromUpto begin end j × PairAt Meeting items i j)
+  two_apart begin end other_around is_other apart i j (within, other, pair) =
+      let mine : slice_get boxes i ≡ Some (bounds pair.one) = ap (λ (list : List Bounds). slice_get list i) are ∙ mapped_at bounds items i pair.one pair.first in
+      let its : slice_get boxes j ≡ Some (bounds pair.other) = ap (λ (list : List Bounds). slice_get list j) are ∙ mapped_at bounds items j pair.other pair.second in
+      let near = boxed.near pair.one pair.other pair.meet in
+      let first = is_around i (bounds pair.one) mine within.0 within.1 in
+      let second = is_other j (bounds pair.other) its other.0 other.1 in
+      apart (record {
+        left = omega (arith, ints, near.left, first.left, second.right);
+        right = omega (arith, ints, near.right, first.right, second.left);
+        low = omega (arith, ints, near.low, first.low, second.high);
+        high = omega (arith, ints, near.high, first.high, second.low);
+      })
 
 -- ---- of an item and of points
 

@@ -1,7 +1,7 @@
-//! When two boxes meet.
+//! When two boxes meet, and a box around both.
 
 ghost use Rattle.std.specs.Prelude.{◌≤ℤ◌, MatchBool};
-ghost use Rattle.plane.specs.Pairs.Bounds.{BoundsMeet};
+ghost use Rattle.plane.specs.Pairs.Bounds.{BoundsMeet, IsWithinBox};
 
 use super::items::Bounds;
 
@@ -26,4 +26,17 @@ pub(super) fn rows_meet(one: Bounds, other: Bounds) -> bool
     ensures { let meet = (one.low ≤ℤ other.high) × (other.low ≤ℤ one.high) in MatchBool result meet (¬ meet) }
 {
     (one.low <= other.high) & (other.low <= one.high)
+}
+
+/// The least box with both within it.
+pub fn join_boxes(one: Bounds, other: Bounds) -> Bounds
+    ensures one { IsWithinBox one result }
+    ensures other { IsWithinBox other result }
+{
+    Bounds {
+        left: one.left.min(other.left),
+        right: one.right.max(other.right),
+        low: one.low.min(other.low),
+        high: one.high.max(other.high),
+    }
 }

@@ -14,6 +14,7 @@ use i_tree::Refusal;
 use items::Meets;
 use parts::parts;
 pub use points::{pairs_with_points, pairs_with_points_within_budget};
+use runs::append_pairs_if_runs_pay;
 use sampled::is_likely_spent;
 use std::alloc::Allocator;
 use sweep::append_pairs;
@@ -30,6 +31,7 @@ mod parts;
 mod points;
 mod read_ahead;
 mod rows;
+mod runs;
 mod sampled;
 mod strips;
 mod sweep;
@@ -42,7 +44,7 @@ mod two;
 /// It is the textbook's sweep line over the boxes of the items, from left to right, with a segment tree over their
 /// heights as its status, and with a test of each pair that lies near each other. Where many items are live at once,
 /// their heights are cut into strips, each with a sweep of its own. While few are live in a strip, a list is its status.
-/// Few items are compared with one another.
+/// Few items are compared with one another, and some more where boxes around those that follow each other tell that most lie apart.
 pub fn pairs_among<T: Meets<T>, A: Allocator + Copy>(
     items: &[T],
     out: &mut Vec<(usize, usize), A>,
@@ -167,6 +169,9 @@ fn sweep_over<T: Meets<T>, A: Allocator + Copy>(
     if are_few(items) {
         append_pairs_of_few(items, out)?;
         return Ok(true);
+    }
+    if let Some(is_done) = append_pairs_if_runs_pay(items, most, budget, out)? {
+        return Ok(is_done);
     }
     let alloc = *out.allocator();
     let strips = strips_for(items, wanted_for(items));

@@ -16,7 +16,7 @@ const FEW: usize = 2_048;
 // what takes a whole budget shows in some sixty of them.
 const ROOTS_A_SAMPLE: usize = 2;
 
-// The sweep is left out only where the sample tells half as much again as the budget allows. Where it tells less, it may be by chance.
+// The sweep is left out only where the sample tells half as much again as the budget allows. Less may be by chance.
 const TOLD: usize = 3;
 
 const ALLOWED: usize = 2;
@@ -31,7 +31,7 @@ struct Seen {
     pairs: u64,
 }
 
-/// Whether a sweep by these strips is likely to look at more pairs than the budget allows.
+/// Whether a sweep by these strips is likely to look at more pairs than the budget allows. Of few items none is told so.
 pub fn is_likely_spent<T: Meets<T>, A: Allocator>(
     alloc: A,
     items: &[T],
@@ -40,7 +40,22 @@ pub fn is_likely_spent<T: Meets<T>, A: Allocator>(
 ) -> Result<bool, AllocError>
     ensures { budget.tests ≡ 2 ^ 64 - 1 → IfOk result (λ is_likely. is_likely ≡ false) }
 {
-    if items.len() < FEW || budget.tests == usize::MAX {
+    if items.len() < FEW {
+        return Ok(false);
+    }
+    is_told_spent(alloc, items, strips, budget)
+}
+
+/// The same of any number of items.
+pub fn is_told_spent<T: Meets<T>, A: Allocator>(
+    alloc: A,
+    items: &[T],
+    strips: Strips,
+    budget: Budget,
+) -> Result<bool, AllocError>
+    ensures { budget.tests ≡ 2 ^ 64 - 1 → IfOk result (λ is_told. is_told ≡ false) }
+{
+    if items.is_empty() || budget.tests == usize::MAX {
         return Ok(false);
     }
     let sample = sample_of(alloc, items)?;

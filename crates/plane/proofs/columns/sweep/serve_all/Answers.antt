@@ -1,8 +1,8 @@
-use Rattle.std.proofs.Common.{◌≡◌, ◌≢◌, ◌≤◌, ◌+◌, ◌*◌, ℕ, List, ap, arith, length, pos, get_or, take, rules, SFits, w64, sym, ◌∙◌, subst}
+use Rattle.std.proofs.Common.{◌≢◌, ◌≤◌, ◌+◌, ◌*◌, ℕ, List, arith, length, pos, get_or, take, rules, SFits, w64, sym, ◌∙◌, subst}
 use Rattle.std.proofs.lemmas.Int.{to_z-of_z}
 use Rattle.std.proofs.lemmas.List.{get_or_default}
 use Rattle.event_queue.specs.declared.Event.{Event}
-use Rattle.event_queue.specs.declared.Task.TheVariants.{End, Begin, Answer}
+use Rattle.event_queue.specs.declared.Task.TheVariants.{End, Answer}
 use Rattle.plane.specs.Columns.Sweep.{IsQueue, moment_of}
 use Rattle.plane.proofs.ColumnLemmas.Comparing.{Compares-none, Compares-weaker, ServesComparing, ServesComparing-next}
 use Rattle.plane.proofs.ColumnLemmas.SweepAsk.{IsSwept-asked}

@@ -1,6 +1,6 @@
 use Rattle.std.proofs.Common.{SFits, w32, rules}
 use Rattle.std.proofs.lemmas.Int.{to_z-of_z}
-use Rattle.plane.proofs.pairs.few.join_boxes.Goals as goal
+use Rattle.plane.proofs.pairs.boxes.join_boxes.Goals as goal
 
 pub returns-clause-one : goal.returns-clause-one
 returns-clause-one c =

@@ -2,7 +2,7 @@ use Rattle.std.proofs.Common.{get_or, pos, arith}
 use Rattle.std.proofs.lemmas.Option.{slice_get-get_or}
 use Rattle.plane.specs.declared.pairs.items.Bounds.{Bounds}
 use Rattle.plane.proofs.PairsLemmas.Compared.{around-first, around-more}
-use Rattle.plane.proofs.pairs.few.box_around.Goals as goal
+use Rattle.plane.proofs.pairs.runs.box_around.Goals as goal
 
 pub loop-place-init : goal.loop-place-init
 loop-place-init c =

@@ -1,5 +1,5 @@
 use Rattle.plane.specs.Pairs.Bounds.{IsAroundThese}
-use Rattle.plane.proofs.pairs.few.box_around.Given as goal
+use Rattle.plane.proofs.pairs.runs.box_around.Given as goal
 
 -- it is around the boxes so far
 abbrev pub invariant-loop-place : goal.invariant-loop-place
