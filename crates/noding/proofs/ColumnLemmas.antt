@@ -3,6 +3,7 @@
 pub mod Ends
 pub mod Flags
 pub mod Hot
+pub mod Near
 pub mod Nodes
 pub mod Pairs
 pub mod Passing

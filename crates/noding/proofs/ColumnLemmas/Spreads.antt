@@ -5,6 +5,7 @@ use Rattle.std.proofs.lemmas.Int.{clamps, ints}
 use Rattle.std.proofs.lemmas.List.Elements.{All-contains, Contains-append_cases, Contains-append_left, Contains-append_right, Contains-get_or}
 use Rattle.std.proofs.lemmas.Option.{same_Some, slice_get_within}
 use Rattle.plane.specs.declared.edge.Edge.{Edge}
+use Rattle.plane.specs.declared.pairs.items.Bounds.{Bounds}
 use Rattle.plane.specs.declared.point.Point.{Point}
 use Rattle.plane.specs.Gains.{GainsThese, HaveSame, IsOfSome}
 use Rattle.plane.specs.Meet.Kinds.{HasPoint}
@@ -12,7 +13,7 @@ use Rattle.plane.proofs.GainsLemmas.{gained-all, gains-none, held-at, none_of}
 use Rattle.noding.specs.Chains.{IsEnd, IsHot, Passes}
 use Rattle.noding.specs.Close.{PassesInside, PassesPoint}
 use Rattle.noding.specs.Columns.Passing.{nowhere}
-use Rattle.noding.specs.Columns.Rounds.{AreFlaggedMoved, Flags, IsBesideAt, IsNewEnd, IsNewly, IsPointOfStop, Spreads}
+use Rattle.noding.specs.Columns.Rounds.{AreFlaggedMoved, Flags, IsBesideAt, IsNewEnd, IsNewly, IsOneWithin, IsPointOfStop, IsWithin, Spreads}
 use Rattle.noding.specs.Crossings.{AreHot}
 use Rattle.noding.specs.Local.{IsMoved, Moves}
 use Rattle.noding.specs.Stops.{IsStop, IsStopAmong, point_of, stop_of}
@@ -22,6 +23,7 @@ use Rattle.noding.proofs.ChainLemmas.Ends.{end_or_not}
 use Rattle.noding.proofs.ChainLemmas.Local.{has_end}
 use Rattle.noding.proofs.ChainLemmas.Spreading.{Moves-hot, Moves-passed}
 use Rattle.noding.proofs.ChainLemmas.Stops.{IsStop-along, point-of_stop}
+use Rattle.noding.proofs.ColumnLemmas.Near.{passed-within}
 use Rattle.noding.proofs.SnapLemmas.Along.{Passes-in_box}
 
 -- an edge that is a point passes nothing between its ends
@@ -116,20 +118,55 @@ module _ (edges : List Edge) (fresh : List Point) (beside : List Stop) (flags ne
 
   -- ---- stops of the newly flagged edges
 
-  module _ (hot : List Point) (are_hot : AreHot edges hot) where
-    -- a stop at a hot point of what stands alone is one of an edge that is newly flagged
-    of_newly : (stop : Stop) (is : IsStopAmong alone hot stop) → (slice_get edges is.place ≡ Some is.edge) × IsNewly flags new_flags is.place
-    of_newly stop is =
-        ⊎_elim (λ both. both)
-        (λ none. absurd (none_nowhere is.point.x is.point.y (subst (λ (e : Edge). PassesInside e is.point.x is.point.y) none is.along.0)))
-        (flagged.others is.place is.edge is.stands)
+  -- a stop of what stands alone is one of an edge that is newly flagged
+  of_newly : (points : List Point) (stop : Stop) (is : IsStopAmong alone points stop) → (slice_get edges is.place ≡ Some is.edge) × IsNewly flags new_flags is.place
+  of_newly points stop is =
+      ⊎_elim (λ both. both)
+      (λ none. absurd (none_nowhere is.point.x is.point.y (subst (λ (e : Edge). PassesInside e is.point.x is.point.y) none is.along.0)))
+      (flagged.others is.place is.edge is.stands)
 
+  -- those at the hot points that lie in a box around the ends of such edges are all
+  module _ (around : Bounds) (hot near : List Point) (holds : All (IsWithin around) ended) (gains : GainsThese (IsOfSome (IsOneWithin around) hot) [] near) where
+    near_is : (point : Point) → Contains near point ↔ IsOfSome (IsOneWithin around) hot point
+    near_is = gained-all (IsOfSome (IsOneWithin around) hot) near gains
+
+    -- what a newly flagged edge passes lies there
+    newly_near : (place : ℕ) (edge : Edge) (point : Point) → slice_get edges place ≡ Some edge → IsNewly flags new_flags place → Passes edge point.x point.y → IsWithin around point
+    newly_near place edge point stands newly passes =
+        passed-within around edge point
+        (λ end is. All-contains (IsWithin around) ended end holds ((flagged.ends end).1 (record { place = place; edge = edge; stands = stands; newly = newly; end = is })))
+        passes
+
+    wider : (stop : Stop) → IsStopAmong alone near stop → IsStopAmong alone hot stop
+    wider stop is = let (one, held, (lies, same)) = (near_is is.point).0 is.held in record {
+      place = is.place;
+      edge = is.edge;
+      point = is.point;
+      stands = is.stands;
+      held = subst (λ (p : Point). Contains hot p) (sym same) held;
+      along = is.along;
+    }
+
+    narrower : (stop : Stop) → IsStopAmong alone hot stop → IsStopAmong alone near stop
+    narrower stop is = let (stands, newly) = of_newly hot stop is in record {
+      place = is.place;
+      edge = is.edge;
+      point = is.point;
+      stands = is.stands;
+      held = (near_is is.point).1 (is.point, is.held, (newly_near is.place is.edge is.point stands newly is.along.0.0, refl));
+      along = is.along;
+    }
+
+    pub told-near : (along : List Stop) → ((stop : Stop) → Contains along stop ↔ IsStopAmong alone near stop) → (stop : Stop) → Contains along stop ↔ IsStopAmong alone hot stop
+    told-near along told_along stop = (λ held. wider stop ((told_along stop).0 held), λ is. (told_along stop).1 (narrower stop is))
+
+  module _ (hot : List Point) (are_hot : AreHot edges hot) where
     module _ (along : List Stop) (told_along : (stop : Stop) → Contains along stop ↔ IsStopAmong alone hot stop) where
       -- so it is a stop of the edges
       along_stop : (stop : Stop) → Contains along stop → IsStop edges stop
       along_stop stop held =
           let is = (told_along stop).0 held in
-          IsStop-along edges is.place is.edge is.point.x is.point.y stop (of_newly stop is).0 ((are_hot is.point).0 is.held) is.along
+          IsStop-along edges is.place is.edge is.point.x is.point.y stop (of_newly hot stop is).0 ((are_hot is.point).0 is.held) is.along
 
       -- so are those at fresh points
       fresh_is_stop : (stop : Stop) → Contains beside stop → IsStop edges stop
@@ -153,7 +190,7 @@ module _ (edges : List Edge) (fresh : List Point) (beside : List Stop) (flags ne
       along_moves : (point : Point) → IsOfSome (IsPointOfStop edges) along point → Moves edges point.x point.y
       along_moves point (stop, held, at) =
           let is = (told_along stop).0 held in
-          let (stands, newly) = of_newly stop is in
+          let (stands, newly) = of_newly hot stop is in
           let same_place : stop.place ≡ is.place = ap (λ (s : Stop). s.place) is.along.1 in
           let edge_is : at.edge ≡ is.edge = same_Some _ _ (sym at.stands ∙ ap (slice_get edges) same_place ∙ stands) in
           let there : is.point ≡ point = sym (at.is ∙ ap (λ (e : Edge). point_of e stop) edge_is ∙ point_is is.place is.edge is.point stop is.along.1) in
@@ -208,7 +245,7 @@ module _ (edges : List Edge) (fresh : List Point) (beside : List Stop) (flags ne
       none_along : (stop : Stop) → Contains [] stop ↔ IsStopAmong alone hot stop
       none_along stop = (
         λ (at, within, is). absurd (omega (arith, within)),
-        λ is. let (stands, newly) = of_newly stop is in absurd (no_newly is.place is.edge stands newly),
+        λ is. let (stands, newly) = of_newly hot stop is in absurd (no_newly is.place is.edge stands newly),
       )
 
       pub Spreads-none : (stops : List Stop) → Spreads edges fresh flags stops new_flags (stops ++ beside) ended

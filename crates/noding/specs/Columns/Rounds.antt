@@ -2,10 +2,12 @@
 use Rattle.std.specs.Prelude.{◌≡◌, ◌≢◌, ◌⊎◌, ◌↔◌, Bool, true, false, ℕ, List, All, Contains, Some, get_or, length, slice_get}
 use Rattle.plane.specs.declared.edge.Edge.{Edge}
 use Rattle.plane.specs.declared.point.Point.{Point}
+use Rattle.plane.specs.declared.pairs.items.Bounds.{Bounds}
 use Rattle.plane.specs.Gains.{GainsThese}
 use Rattle.plane.specs.Meet.Kinds.{HasPoint}
+use Rattle.plane.specs.Pairs.Bounds.{BoundsMeet}
 use Rattle.noding.specs.Chains.{IsHot, Passes}
-use Rattle.noding.specs.Close.{PassesPoint}
+use Rattle.noding.specs.Close.{PassesPoint, at_point}
 use Rattle.noding.specs.Columns.Passing.{nowhere}
 use Rattle.noding.specs.Crossings.{IsEndOf}
 use Rattle.noding.specs.Local.{Moves, MovesInRound}
@@ -27,6 +29,14 @@ pub record IsPointOfStop (edges : List Edge) (stop : Stop) (point : Point) : Typ
 -- It is flagged at last, and wasn't before.
 abbrev pub IsNewly : List Bool → List Bool → ℕ → Type 0
 IsNewly flags new_flags place = (get_or flags place false ≡ false) × (get_or new_flags place false ≡ true)
+
+-- The point lies in the box.
+abbrev pub IsWithin : Bounds → Point → Type 0
+IsWithin box point = BoundsMeet box (at_point point.x point.y)
+
+-- It is this one, and lies in the box.
+abbrev pub IsOneWithin : Bounds → Point → Point → Type 0
+IsOneWithin box one point = IsWithin box one × (point ≡ one)
 
 -- ---- one stop
 

@@ -1,14 +1,15 @@
 //! The stops at nodes where few crossings are points with fractions: what these move is told from points to edges, and from
 //! these to the points that they pass, in some rounds. So no sweep asks for all that edges pass.
 
-ghost use Rattle.std.specs.Prelude.{◌≡◌, ◌<◌, All, IfErr, IfOk, IfSome, OnOk, length};
+ghost use Rattle.std.specs.Prelude.{◌≡◌, ◌<◌, [], All, IfErr, IfOk, IfSome, OnOk, length};
 ghost use Rattle.i_tree.specs.declared.Refusal.TheVariants.{OutOfMemory};
 ghost use Rattle.noding.specs.Columns.Ends.{AreEnds, HaveAllOn};
-ghost use Rattle.noding.specs.Columns.Rounds.{AreFlaggedMoved, AreSpreadStops, Flags, FlagsIfBeside, IsPointOfStop, Spreads};
+ghost use Rattle.noding.specs.Columns.Rounds.{AreFlaggedMoved, AreSpreadStops, Flags, FlagsIfBeside, IsOneWithin, IsPointOfStop, IsWithin, Spreads};
 ghost use Rattle.noding.specs.Crossings.{AreAllCrossed, AreHot, IsCrossed};
 ghost use Rattle.noding.specs.Local.{AreFirst, AreMoved, IsPointBeside, Moves};
 ghost use Rattle.noding.specs.Stops.{AreNodeStops};
 ghost use Rattle.plane.specs.Gains.{GainsThese, IsOfSome};
+ghost use Rattle.plane.specs.declared.pairs.items.Bounds.{Bounds};
 
 use crate::columns::ends::{pairs_on_uprights, push_stops_on};
 use crate::columns::hot_points::{push_both_ends, push_points};
@@ -18,6 +19,8 @@ use crate::moved::{lie_on, lies_on};
 use crate::stops::{Stop, point_of, push_stops_at_points, push_stops_of_crossings, sort_stops};
 use i_tree::Refusal;
 use plane::edge::Edge;
+use plane::pairs::boxes::{boxes_meet, join_boxes};
+use plane::pairs::items::{Bounds, Boxed};
 use plane::point::Point;
 use std::alloc::{AllocError, Allocator};
 
@@ -192,8 +195,9 @@ fn spread_points<A: Allocator + Copy>(
     if passed.is_empty() {
         return Ok(passed);
     }
+    let near = points_near(alloc, hot, &passed)?;
     let mut along = Vec::new(alloc);
-    push_stops_at_points(&alone, hot, &mut along)?;
+    push_stops_at_points(&alone, &near, &mut along)?;
     spread.stops.extend_from_slice(&along)?;
     push_points_of(edges, &along, &mut passed)?;
     sort_points(&mut passed)?;
@@ -240,6 +244,52 @@ fn flag_if_beside<A: Allocator>(
     flags[stop.place] = true;
     flagged.alone[stop.place] = edge;
     push_both_ends(edge, &mut flagged.passed)
+}
+
+// Those of the hot points that lie in a box around these ends of edges: all that the edges pass are among them.
+fn points_near<A: Allocator>(
+    alloc: A,
+    hot: &[Point],
+    ends: &[Point],
+) -> Result<Vec<Point, A>, AllocError>
+    requires some { 0 < length ends.now }
+    ensures { IfOk result (λ near. (around : Bounds) × All (IsWithin around) ends.now
+        × GainsThese (IsOfSome (IsOneWithin around) hot.now) [] near.items) }
+{
+    let around = box_around(ends);
+    let mut near = Vec::new(alloc);
+    // Those of the points so far that lie in the box stand there.
+    for point in hot {
+        push_if_within(around, *point, &mut near)?;
+    }
+    Ok(near)
+}
+
+// Appends the point, if it lies in the box.
+fn push_if_within<A: Allocator>(
+    around: Bounds,
+    point: Point,
+    points: &mut Vec<Point, A>,
+) -> Result<(), AllocError>
+    ensures { OnOk result (GainsThese (IsOneWithin around point) points.old.items points.new.items) }
+{
+    if boxes_meet(around, point.bounds()) {
+        points.push(point)?;
+    }
+    Ok(())
+}
+
+// A box in which all these points lie.
+fn box_around(points: &[Point]) -> Bounds
+    requires { 0 < length points.now }
+    ensures { All (IsWithin result) points.now }
+{
+    let mut around = points[0].bounds();
+    // The points so far lie in it.
+    for point in points {
+        around = join_boxes(around, point.bounds());
+    }
+    around
 }
 
 // Appends the points of these stops.
