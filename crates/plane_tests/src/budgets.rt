@@ -8,12 +8,13 @@ use plane::pairs::{Budget, pairs_within_budget};
 use std::alloc::{Allocator, Global};
 use std::test::Fail;
 
-const COUNT: i32 = 300;
+// Of the more a sample is taken before a search begins.
+const COUNTS: [i32; 2] = [300, 2_500];
 
 // Edges beside each other, as a hatching has them: all boxes overlap, and none meet.
-fn hatching(alloc: Global) -> Result<Vec<Edge>, Fail> {
+fn hatching(alloc: Global, count: i32) -> Result<Vec<Edge>, Fail> {
     let mut edges = Vec::new(alloc);
-    for place in 0..COUNT {
+    for place in 0..count {
         let low = place.saturating_mul(2);
         edges.push(edge([0, low, 2000, low.saturating_add(2000)]))?;
     }
@@ -21,9 +22,9 @@ fn hatching(alloc: Global) -> Result<Vec<Edge>, Fail> {
 }
 
 // A line of edges, each of which meets the next one.
-fn zigzag(alloc: Global) -> Result<Vec<Edge>, Fail> {
+fn zigzag(alloc: Global, count: i32) -> Result<Vec<Edge>, Fail> {
     let mut edges = Vec::new(alloc);
-    for place in 0..COUNT {
+    for place in 0..count {
         let left = place.saturating_mul(4);
         let low = place % 2;
         edges.push(edge([left, low, left.saturating_add(4), 1 - low]))?;
@@ -42,24 +43,30 @@ fn found<A: Allocator + Copy>(
 
 #[test]
 fn a_search_gives_up_where_many_boxes_overlap(rt: HostRuntime) -> Result<(), Fail> {
-    let edges = hatching(rt.alloc())?;
-    let mut pairs = Vec::new(rt.alloc());
-    pairs.push((7, 8))?;
-    assert!(rt; !found(&edges, 4_800, &mut pairs)?, "few tests");
-    assert!(rt; found(&edges, 90_000, &mut pairs)?, "enough tests");
-    assert!(rt; pairs.as_slice() == [(7, 8)].as_slice(), "no pair came");
+    for count in COUNTS {
+        let edges = hatching(rt.alloc(), count)?;
+        let few = edges.len().saturating_mul(16);
+        let enough = edges.len().saturating_mul(edges.len());
+        let mut pairs = Vec::new(rt.alloc());
+        pairs.push((7, 8))?;
+        assert!(rt; !found(&edges, few, &mut pairs)?, "few tests");
+        assert!(rt; found(&edges, enough, &mut pairs)?, "enough tests");
+        assert!(rt; pairs.as_slice() == [(7, 8)].as_slice(), "no pair came");
+    }
     Ok(())
 }
 
 #[test]
 fn each_pair_that_is_found_allows_more_tests(rt: HostRuntime) -> Result<(), Fail> {
-    let edges = zigzag(rt.alloc())?;
-    let mut pairs = Vec::new(rt.alloc());
-    assert!(rt;
-        found(&edges, 16, &mut pairs)?,
-        "few tests, and four for each pair"
-    );
-    assert!(rt; pairs.len() + 1 == edges.len(), "neighbours");
+    for count in COUNTS {
+        let edges = zigzag(rt.alloc(), count)?;
+        let mut pairs = Vec::new(rt.alloc());
+        assert!(rt;
+            found(&edges, 16, &mut pairs)?,
+            "few tests, and four for each pair"
+        );
+        assert!(rt; pairs.len() + 1 == edges.len(), "neighbours");
+    }
     Ok(())
 }
 
@@ -75,7 +82,7 @@ fn count_meetings(edges: &[Edge]) -> usize {
 
 #[test]
 fn what_crosses_a_hatching_is_found_by_columns(rt: HostRuntime) -> Result<(), Fail> {
-    let mut edges = hatching(rt.alloc())?;
+    let mut edges = hatching(rt.alloc(), COUNTS[0])?;
     for ends in [
         [-10, 1000, 3000, 1000],
         [500, -10, 500, 4000],
