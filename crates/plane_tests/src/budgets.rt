@@ -37,7 +37,10 @@ fn found<A: Allocator + Copy>(
     tests: usize,
     out: &mut Vec<(usize, usize), A>,
 ) -> Result<bool, Refusal> {
-    let budget = Budget { tests, per_pair: 4 };
+    let budget = Budget {
+        tests,
+        per_pair: 16,
+    };
     pairs_within_budget(edges, budget, out)
 }
 
@@ -63,7 +66,7 @@ fn each_pair_that_is_found_allows_more_tests(rt: HostRuntime) -> Result<(), Fail
         let mut pairs = Vec::new(rt.alloc());
         assert!(rt;
             found(&edges, 16, &mut pairs)?,
-            "few tests, and four for each pair"
+            "few tests, and sixteen for each pair"
         );
         assert!(rt; pairs.len() + 1 == edges.len(), "neighbours");
     }

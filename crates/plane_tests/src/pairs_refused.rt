@@ -47,6 +47,11 @@ impl<'a> Trial for Telling<'a> {
     }
 
     fn is_refused(&self, told: &mut Told<'a>, _nth: u64) -> bool {
+        // A list that is collected grows step by step where it isn't given its room at once.
+        if self.is_done(told) {
+            told.pairs.truncate(1);
+            return true;
+        }
         told.outcome == Err(Refusal::OutOfMemory) && told.pairs.as_slice() == [(9, 9)].as_slice()
     }
 
@@ -58,22 +63,42 @@ impl<'a> Trial for Telling<'a> {
     }
 }
 
-#[test]
-fn meetings_keep_out_at_each_refusal(rt: HostRuntime) -> Result<(), Fail> {
-    let memory = Refusing::new(rt.alloc());
-    // Each level edge meets each upright one.
-    let mut edges = Vec::new(rt.alloc());
+// Each level edge meets each upright one, which boxes around runs tell.
+fn crossing_edges(alloc: Global) -> Result<Vec<Edge>, Refusal> {
+    let mut edges = Vec::new(alloc);
     for place in 0..36 {
         edges.push(edge([0, place, 36, place]))?;
         edges.push(edge([place, 0, place, 35]))?;
     }
-    let telling = Telling {
-        memory: &memory,
-        edges,
-        dots: Vec::new(rt.alloc()),
-        count: 1296,
-    };
-    assert!(rt; refuse_in_turn(&memory, &telling).is_ok_and(|requests| requests > 10));
+    Ok(edges)
+}
+
+// Those that follow each other lie far apart, so that a sweep is made. Four stand at each height.
+fn scattered_edges(alloc: Global) -> Result<Vec<Edge>, Refusal> {
+    let mut edges = Vec::new(alloc);
+    for place in 0..72i32 {
+        let height = place.saturating_mul(7) % 18 * 40;
+        edges.push(edge([place, height, place.saturating_add(720), height]))?;
+    }
+    Ok(edges)
+}
+
+#[test]
+fn meetings_keep_out_at_each_refusal(rt: HostRuntime) -> Result<(), Fail> {
+    let memory = Refusing::new(rt.alloc());
+    let both = [
+        (crossing_edges(rt.alloc())?, 1296),
+        (scattered_edges(rt.alloc())?, 108),
+    ];
+    for (edges, count) in both {
+        let telling = Telling {
+            memory: &memory,
+            edges,
+            dots: Vec::new(rt.alloc()),
+            count,
+        };
+        assert!(rt; refuse_in_turn(&memory, &telling).is_ok_and(|requests| requests > 8));
+    }
     Ok(())
 }
 

@@ -246,7 +246,7 @@ fn append_pairs_near<T: Meets<T>, A: Allocator>(
         return Ok(0);
     }
     append_pairs_within(items, boxes, run.from, run.to, second, out)?;
-    Ok(RUN)
+    Ok(run.to.min(second).saturating_sub(run.from))
 }
 
 // A box around those from the one place up to the other.

@@ -26,7 +26,10 @@ const FEW: usize = 128;
 // soon as a tree of them is searched.
 const MOST: usize = 1_024;
 
-// But for so many that stand elsewhere, more than do next to the one before.
+// One that stands elsewhere counts as so many that stand there: a search or a pass over those that have ended is lost on it.
+const STRAY: usize = 4;
+
+// More strays than these are too many: eight, less a fourth of those that stand next to the one before.
 const MOST_STRAYS: usize = 32;
 
 /// The status of a sweep line: a sorted list while few pairs are stored, and a tree once more are.
@@ -44,7 +47,7 @@ pub struct GrowingStatus<K: ExpiredVal<E>, E: Expiration, V: Copy, A: Allocator 
     are_many: bool,
     // The place behind the pair that the list took last, which the next one tries first. No answer depends on it.
     near: usize,
-    // How many pairs stood elsewhere than there, less those that stood there since. No answer depends on it.
+    // What those count that stood elsewhere than there, less how many stood there since. No answer depends on it.
     strays: usize,
 }
 
@@ -169,13 +172,14 @@ impl<K: ExpiredVal<E>, E: Expiration, V: Copy, A: Allocator + Copy> StatusCollec
     }
 }
 
-// How many strays there are after an insertion, which has moved the guess of a place: to right behind it, where it was right.
+// What strays count after an insertion, which has moved the guess of a place: to right behind it, where it was right. It never is
+// so much that the next few make no difference.
 #[inline(always)]
 fn count_stray(strays: usize, before: usize, after: usize) -> usize {
     if after == before.wrapping_add(1) {
         strays.saturating_sub(1)
     } else {
-        strays.saturating_add(1)
+        strays.saturating_add(STRAY).min(2 * MOST_STRAYS)
     }
 }
 
