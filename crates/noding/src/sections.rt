@@ -66,10 +66,11 @@ pub fn sections_of<A: Allocator>(
     ensures { IfOk result (λ sections. AreSections edges.now (length edges.now) sections.items) }
 {
     let spread = spread_of(points);
+    let most = bits_in(points.len());
     let mut sections = Vec::with_capacity(alloc, edges.len())?;
     // The edges so far have their sections.
     for (place, edge) in edges.iter().enumerate() {
-        push_sections(place, *edge, count_for(*edge, spread), &mut sections)?;
+        push_sections(place, *edge, count_for(*edge, spread, most), &mut sections)?;
     }
     Ok(sections)
 }
@@ -88,7 +89,12 @@ fn spread_of(points: &[Point]) -> u32 {
         all.low = all.low.min(point.y);
         all.high = all.high.max(point.y);
     }
-    bits_of(all).saturating_sub(64 - (points.len() as u64).leading_zeros())
+    bits_of(all).saturating_sub(bits_in(points.len()))
+}
+
+// How many bits the number takes.
+fn bits_in(count: usize) -> u32 {
+    64 - (count as u64).leading_zeros()
 }
 
 // How many bits the size of the box takes.
@@ -98,11 +104,12 @@ fn bits_of(bounds: Bounds) -> u32 {
     (32 - wide.leading_zeros()) + (32 - tall.leading_zeros())
 }
 
-// Into how many sections the edge is cut: about as many as the square root of how many points are likely to lie in its box.
-fn count_for(edge: Edge, spread: u32) -> usize
+// Into how many sections the edge is cut: about as many as the square root of how many points are likely to lie in its box. These
+// are no more than all, which take so many bits at most.
+fn count_for(edge: Edge, spread: u32, most: u32) -> usize
     ensures { 0 < result }
 {
-    let likely = bits_of(edge.bounds()).saturating_sub(spread);
+    let likely = bits_of(edge.bounds()).saturating_sub(spread).min(most);
     if likely < LEAST_BITS {
         return 1;
     }

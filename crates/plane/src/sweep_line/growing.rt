@@ -19,27 +19,16 @@ use std::alloc::Allocator;
 use std::cmp::Ordering;
 use std::marker::Model;
 
-// So many pairs stay in the list, wherever they stand.
+/// With more pairs than these, all go over from the list into the tree.
 const FEW: usize = 128;
-
-// So many stay there yet, while most stand next to the one before: then no place is sought, and a list of so many is shifted as
-// soon as a tree of them is searched.
-const MOST: usize = 1_024;
-
-// One that stands elsewhere counts as so many that stand there: a search or a pass over those that have ended is lost on it.
-const STRAY: usize = 4;
-
-// More strays than these are too many: eight, less a fourth of those that stand next to the one before.
-const MOST_STRAYS: usize = 32;
 
 /// The status of a sweep line: a sorted list while few pairs are stored, and a tree once more are.
 ///
 /// Contracts see the stored pairs in their order along the line. Where only few are live at once, a list is quicker than a
 /// tree; where many are, it shifts all behind a place for each that comes. So all pairs go over into the tree when an insertion
-/// leaves more than 128 of them, or more than 1,024 where most come next to the one before. They stay there until `clear`. For
-/// this no insertion is refused: where the tree gets no room, they stay in the list. Nor is one refused for want of handles:
-/// where the tree has none left, all live pairs go back into the list, which needs none. It is our own, and not of the Rust
-/// crate.
+/// leaves more than 128 of them, and stay there until `clear`. For this no insertion is refused: where the tree gets no room,
+/// they stay in the list. Nor is one refused for want of handles: where the tree has none left, all live pairs go back into the
+/// list, which needs none. It is our own, and not of the Rust crate.
 #[derive(Drop)]
 pub struct GrowingStatus<K: ExpiredVal<E>, E: Expiration, V: Copy, A: Allocator + Copy> {
     few: StatusList<K, E, V, A>,
@@ -47,8 +36,6 @@ pub struct GrowingStatus<K: ExpiredVal<E>, E: Expiration, V: Copy, A: Allocator 
     are_many: bool,
     // The place behind the pair that the list took last, which the next one tries first. No answer depends on it.
     near: usize,
-    // What those count that stood elsewhere than there, less how many stood there since. No answer depends on it.
-    strays: usize,
 }
 
 impl<K: ExpiredVal<E>, E: Expiration, V: Copy, A: Allocator + Copy> Model
@@ -75,7 +62,6 @@ impl<K: ExpiredVal<E>, E: Expiration, V: Copy, A: Allocator + Copy> GrowingStatu
             many: StatusTree::new(alloc, 0)?,
             are_many: false,
             near: 0,
-            strays: 0,
         })
     }
 }
@@ -125,10 +111,8 @@ impl<K: ExpiredVal<E>, E: Expiration, V: Copy, A: Allocator + Copy> StatusCollec
                 }
             }
         }
-        let guess = self.near;
         let told = self.few.insert_near(time, &mut self.near, f, key, val)?;
-        self.strays = count_stray(self.strays, guess, self.near);
-        self.are_many = go_over_if_many(&mut self.few, &mut self.many, time, key, self.strays);
+        self.are_many = go_over_if_many(&mut self.few, &mut self.many, time, key);
         Ok(told)
     }
 
@@ -168,25 +152,7 @@ impl<K: ExpiredVal<E>, E: Expiration, V: Copy, A: Allocator + Copy> StatusCollec
         self.few.clear();
         self.many.clear();
         self.are_many = false;
-        self.strays = 0;
     }
-}
-
-// What strays count after an insertion, which has moved the guess of a place: to right behind it, where it was right. It never is
-// so much that the next few make no difference.
-#[inline(always)]
-fn count_stray(strays: usize, before: usize, after: usize) -> usize {
-    if after == before.wrapping_add(1) {
-        strays.saturating_sub(1)
-    } else {
-        strays.saturating_add(STRAY).min(2 * MOST_STRAYS)
-    }
-}
-
-// Whether so many pairs are too many for a list, of which so many strayed.
-#[inline(always)]
-fn are_too_many(stored: usize, strays: usize) -> bool {
-    stored > FEW && (strays > MOST_STRAYS || stored > MOST)
 }
 
 /// Whether all pairs have gone over from the list into the empty tree, which they do where they are many. The others are live, so
@@ -197,13 +163,12 @@ fn go_over_if_many<K: ExpiredVal<E>, E: Expiration, V: Copy, A: Allocator + Copy
     many: &mut StatusTree<K, E, V, A>,
     time: E,
     key: K,
-    strays: usize,
 ) -> bool
     requires live { is_live K.expiration E.cmp time key ≡ true → AllLive K.expiration E.cmp time few.old.pairs }
     requires empty { items many.old.shape ≡ [] }
     ensures gone { AreHeldByOne result few.new.pairs (items many.new.shape) few.old.pairs }
 {
-    if are_too_many(few.stored(), strays) && key.expiration() >= time {
+    if few.stored() > FEW && key.expiration() >= time {
         return go_over(few, many, time);
     }
     false
