@@ -19,16 +19,26 @@ use std::alloc::Allocator;
 use std::cmp::Ordering;
 use std::marker::Model;
 
-/// With more pairs than these, all go over from the list into the tree.
+// So many pairs stay in the list, however often some expire.
 const FEW: usize = 128;
+
+// So many stay there yet while some expire seldom: a list of so many is shifted as soon as a tree of them is searched, but each time
+// that some expire all are passed over.
+const MOST: usize = 1_024;
+
+// An insertion at which some expire is made up for by so many at which none does.
+const PASS: usize = 16;
+
+// Eight such insertions are too many.
+const MOST_PASSES: usize = 128;
 
 /// The status of a sweep line: a sorted list while few pairs are stored, and a tree once more are.
 ///
 /// Contracts see the stored pairs in their order along the line. Where only few are live at once, a list is quicker than a
 /// tree; where many are, it shifts all behind a place for each that comes. So all pairs go over into the tree when an insertion
-/// leaves more than 128 of them, and stay there until `clear`. For this no insertion is refused: where the tree gets no room,
-/// they stay in the list. Nor is one refused for want of handles: where the tree has none left, all live pairs go back into the
-/// list, which needs none. It is our own, and not of the Rust crate.
+/// leaves more than 128 of them, or more than 1,024 while some expire seldom. They stay there until `clear`. For this no
+/// insertion is refused: where the tree gets no room, they stay in the list. Nor is one refused for want of handles: where the
+/// tree has none left, all live pairs go back into the list, which needs none. It is our own, and not of the Rust crate.
 #[derive(Drop)]
 pub struct GrowingStatus<K: ExpiredVal<E>, E: Expiration, V: Copy, A: Allocator + Copy> {
     few: StatusList<K, E, V, A>,
@@ -36,6 +46,8 @@ pub struct GrowingStatus<K: ExpiredVal<E>, E: Expiration, V: Copy, A: Allocator 
     are_many: bool,
     // The place behind the pair that the list took last, which the next one tries first. No answer depends on it.
     near: usize,
+    // What the insertions count at which some expired, less how many others there were since. No answer depends on it.
+    passes: usize,
 }
 
 impl<K: ExpiredVal<E>, E: Expiration, V: Copy, A: Allocator + Copy> Model
@@ -62,6 +74,7 @@ impl<K: ExpiredVal<E>, E: Expiration, V: Copy, A: Allocator + Copy> GrowingStatu
             many: StatusTree::new(alloc, 0)?,
             are_many: false,
             near: 0,
+            passes: 0,
         })
     }
 }
@@ -111,8 +124,11 @@ impl<K: ExpiredVal<E>, E: Expiration, V: Copy, A: Allocator + Copy> StatusCollec
                 }
             }
         }
+        let stored = self.few.stored();
         let told = self.few.insert_near(time, &mut self.near, f, key, val)?;
-        self.are_many = go_over_if_many(&mut self.few, &mut self.many, time, key);
+        let is_pass = self.few.stored() <= stored;
+        self.passes = count_pass(self.passes, is_pass);
+        self.are_many = go_over_if_many(&mut self.few, &mut self.many, time, key, self.passes);
         Ok(told)
     }
 
@@ -152,7 +168,24 @@ impl<K: ExpiredVal<E>, E: Expiration, V: Copy, A: Allocator + Copy> StatusCollec
         self.few.clear();
         self.many.clear();
         self.are_many = false;
+        self.passes = 0;
     }
+}
+
+// What passes count after one more insertion. It never is so much that the next few make no difference.
+#[inline(always)]
+fn count_pass(passes: usize, is_pass: bool) -> usize {
+    if is_pass {
+        passes.saturating_add(PASS).min(2 * MOST_PASSES)
+    } else {
+        passes.saturating_sub(1)
+    }
+}
+
+// Whether so many pairs are too many for a list, which was passed over so often.
+#[inline(always)]
+fn are_too_many(stored: usize, passes: usize) -> bool {
+    stored > FEW && (passes > MOST_PASSES || stored > MOST)
 }
 
 /// Whether all pairs have gone over from the list into the empty tree, which they do where they are many. The others are live, so
@@ -163,12 +196,13 @@ fn go_over_if_many<K: ExpiredVal<E>, E: Expiration, V: Copy, A: Allocator + Copy
     many: &mut StatusTree<K, E, V, A>,
     time: E,
     key: K,
+    passes: usize,
 ) -> bool
     requires live { is_live K.expiration E.cmp time key ≡ true → AllLive K.expiration E.cmp time few.old.pairs }
     requires empty { items many.old.shape ≡ [] }
     ensures gone { AreHeldByOne result few.new.pairs (items many.new.shape) few.old.pairs }
 {
-    if few.stored() > FEW && key.expiration() >= time {
+    if are_too_many(few.stored(), passes) && key.expiration() >= time {
         return go_over(few, many, time);
     }
     false
